@@ -1,0 +1,28 @@
+ghost use mathlib.Core.Path.{_≡_};
+ghost use Rattle.std.specs.shelf.Text.{sameBytes};
+ghost use Rattle.datatypes.specs.Blanks.{isBlank, dropBlanks, trim};
+
+pub fn equal(a: &[u8], b: &[u8]) -> bool
+    ensures { λ r. ⌜ r ≡ sameBytes (now (a .entry)) (now (b .entry)) ⌝ }
+{
+    a == b
+}
+
+pub fn is_blank(b: u8) -> bool
+    ensures { λ r. ⌜ r ≡ isBlank b ⌝ }
+{
+    matches!(b, b' ' | b'\t' | b'\n' | b'\r')
+}
+
+pub fn skip_blanks(s: &[u8]) -> &[u8]
+    ensures { λ r. ⌜ now r ≡ dropBlanks (now (s .entry)) ⌝ }
+{
+    let mut rest = s;
+    while let [b, tail @ ..] = rest {
+        if !is_blank(*b) {
+            break;
+        }
+        rest = tail;
+    }
+    rest
+}

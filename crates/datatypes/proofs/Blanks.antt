@@ -1,11 +1,11 @@
 -- Laws of blanks at the ends of a string.
 use mathlib.Core.Path.{_≡_, refl, sym, ap, _∙_}
 use mathlib.Core.Bool.{Bool, true, false, cond}
-use mathlib.Core.List.{List, [], _∷_, _++_, reverse, reverse-cons, reverse-append}
+use mathlib.Core.List.{List, [], _∷_, _++_, reverse, reverse-cons, reverse-append, reverse-reverse}
 use Prim.Native.Nat.{ℕ, _+_, _-_, _<_, _≤_}
 use native.Mathlib.Omega.{arith}
 use lib.ListN.{length, getD, take, drop}
-use Rattle.std.proofs.shelf.Lists.{take-rest, length-push}
+use Rattle.std.proofs.shelf.Lists.{take-rest, take-all, take-more, length-push}
 use Rattle.std.proofs.shelf.Tests.{cond-true, cond-false}
 use Rattle.datatypes.specs.Blanks.{isBlank, dropBlanks, dropEndBlanks}
 use Rattle.datatypes.specs.Meaning.{Bytes}
@@ -74,3 +74,29 @@ dropEndBlanks-cons b s =
 pub onto-solid : (b : ℕ) (s : Bytes) → isBlank b ≡ false → onto b s ≡ b ∷ s
 onto-solid b [] e = cond-false _ _ _ e
 onto-solid b (c ∷ s) e = refl
+
+-- ---- the last byte
+
+-- a string that is not empty, as the slice pattern `[init @ .., b]` takes it apart
+unsnoc : (s : Bytes) → 0 < length s → s ≡ take (length s - 1) s ++ getD s (length s - 1) 0 ∷ []
+unsnoc s some = sym (take-all (length s - 1 + 1) s (omega arith)) ∙ take-more s (length s - 1) 0 (omega arith)
+
+dropEndBlanks-push : (s : Bytes) (b : ℕ) → dropEndBlanks (s ++ b ∷ []) ≡ cond (isBlank b) (dropEndBlanks s) (s ++ b ∷ [])
+dropEndBlanks-push s b = ap (λ r. reverse (dropBlanks r)) (reverse-append s (b ∷ [])) ∙ go (isBlank b)
+  where
+    go : (t : Bool) → reverse (cond t (dropBlanks (reverse s)) (b ∷ reverse s)) ≡ cond t (dropEndBlanks s) (s ++ b ∷ [])
+    go true = refl
+    go false = ap reverse (sym (reverse-append s (b ∷ []))) ∙ reverse-reverse (s ++ b ∷ [])
+
+module _ (s : Bytes) (some : 0 < length s) where
+  pub dropEndBlanks-blank : isBlank (getD s (length s - 1) 0) ≡ true → dropEndBlanks (take (length s - 1) s) ≡ dropEndBlanks s
+  dropEndBlanks-blank e =
+      sym (ap dropEndBlanks (unsnoc s some) ∙ dropEndBlanks-push (take (length s - 1) s) (getD s (length s - 1) 0) ∙ rw e)
+
+  pub dropEndBlanks-solid : isBlank (getD s (length s - 1) 0) ≡ false → dropEndBlanks s ≡ s
+  dropEndBlanks-solid e =
+      ap dropEndBlanks (unsnoc s some) ∙ dropEndBlanks-push (take (length s - 1) s) (getD s (length s - 1) 0) ∙ rw e (sym (unsnoc s some))
+
+pub dropEndBlanks-none : (s : Bytes) → length s < 1 → dropEndBlanks s ≡ s
+dropEndBlanks-none [] h = refl
+dropEndBlanks-none (b ∷ s) h = absurd (omega arith)

@@ -2,4 +2,8 @@ pub mod Blanks
 pub mod BuiltIn
 pub mod Collapsed
 pub mod Comparison
+pub mod Decimal
+pub mod Digits
 pub mod Meaning
+pub mod NormalForm
+pub mod Numeral

@@ -26,3 +26,16 @@ pub fn skip_blanks(s: &[u8]) -> &[u8]
     }
     rest
 }
+
+pub fn trim_blanks(s: &[u8]) -> &[u8]
+    ensures { λ r. ⌜ now r ≡ trim (now (s .entry)) ⌝ }
+{
+    let mut rest = skip_blanks(s);
+    while let [init @ .., b] = rest {
+        if !is_blank(*b) {
+            break;
+        }
+        rest = init;
+    }
+    rest
+}

@@ -1,11 +1,22 @@
 mod builtin;
 mod bytes;
 mod comparison;
+mod decimal;
+mod decimals;
+mod digits;
 mod library;
+mod reading;
 mod token;
 
 pub use builtin::BuiltIn;
 pub use builtin::BuiltInLibrary;
 pub use comparison::Comparison;
 pub use comparison::compare;
+pub use decimal::Decimal;
+pub use decimal::DecimalDebug;
+pub use decimal::DecimalEq;
+pub use decimal::DecimalPartialEq;
+pub use decimals::Decimals;
+pub use decimals::DecimalsLibrary;
+pub use decimals::XML_SCHEMA_DATATYPES;
 pub use library::DatatypeLibrary;

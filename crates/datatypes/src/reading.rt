@@ -1,0 +1,96 @@
+ghost use mathlib.Core.Path.{_≡_};
+ghost use mathlib.Core.Bool.{true};
+ghost use Rattle.std.specs.Options.{valueOr};
+ghost use Rattle.datatypes.specs.Decimal.{held, Reads};
+ghost use Rattle.datatypes.specs.Digits.{Pushed, ReadsDigits};
+ghost use Rattle.datatypes.specs.Numeral.{equalValue, startsMinus, unsigned};
+use crate::bytes::trim_blanks;
+use crate::decimal::Decimal;
+use crate::decimal::DecimalPartialEq;
+use crate::digits::Digits;
+
+const MOST_DIGITS: u8 = 18;
+
+impl Digits {
+    // The digits with one byte more, or none where no numeral goes on so.
+    fn push(self, b: u8) -> Option<Digits>
+        ensures { λ r. ⌜ Pushed self b r ⌝ }
+    {
+        match b {
+            b'0'..=b'9' if self.count < MOST_DIGITS => Some(Digits {
+                magnitude: self.magnitude * 10 + u64::from(b - b'0'),
+                count: self.count + 1,
+                fraction: match self.fraction {
+                    Some(n) => Some(n + 1),
+                    None => None,
+                },
+            }),
+            b'.' if self.fraction.is_none() => Some(Digits {
+                magnitude: self.magnitude,
+                count: self.count,
+                fraction: Some(0),
+            }),
+            _ => None,
+        }
+    }
+
+    fn read(numeral: &[u8]) -> Option<Digits>
+        ensures { λ r. ⌜ ReadsDigits (now (numeral .entry)) r ⌝ }
+    {
+        let mut digits = Digits {
+            magnitude: 0,
+            count: 0,
+            fraction: None,
+        };
+        for b in numeral {
+            digits = digits.push(*b)?;
+        }
+        if digits.count == 0 {
+            return None;
+        }
+        Some(digits)
+    }
+}
+
+impl Decimal {
+    pub fn parse(s: &[u8]) -> Option<Decimal>
+        ensures { λ r. ⌜ Reads (now (s .entry)) r ⌝ }
+    {
+        let (negative, numeral) = split_sign(trim_blanks(s));
+        let digits = Digits::read(numeral)?;
+        Some(Decimal::normal(negative, digits))
+    }
+
+    fn normal(negative: bool, digits: Digits) -> Decimal
+        ensures { λ r. ⌜ equalValue (held r) (record { negative = negative; digits = digits .magnitude; scale = valueOr (digits .fraction) 0 }) ≡ true ⌝ }
+    {
+        let mut magnitude = digits.magnitude;
+        let mut fraction = digits.fraction.unwrap_or(0);
+        while fraction > 0 && magnitude % 10 == 0 {
+            magnitude /= 10;
+            fraction -= 1;
+        }
+        Decimal {
+            negative: negative && magnitude > 0,
+            magnitude,
+            fraction,
+        }
+    }
+
+    pub fn same_value(&self, other: &Decimal) -> bool
+        ensures { λ r. ⌜ r ≡ equalValue (held (now (self .entry))) (held (now (other .entry))) ⌝ }
+    {
+        *self == *other
+    }
+}
+
+fn split_sign(s: &[u8]) -> (bool, &[u8])
+    ensures sign { λ r. ⌜ r .0 ≡ startsMinus (now (s .entry)) ⌝ }
+    ensures rest { λ r. ⌜ now (r .1) ≡ unsigned (now (s .entry)) ⌝ }
+{
+    match s {
+        [b'-', rest @ ..] => (true, rest),
+        [b'+', rest @ ..] => (false, rest),
+        _ => (false, s),
+    }
+}

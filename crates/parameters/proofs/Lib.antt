@@ -1,0 +1,4 @@
+pub mod Cuts
+
+pub mod Reports
+pub mod Texts

@@ -1,0 +1,6 @@
+mod finding;
+mod reporting;
+mod rows;
+mod split;
+
+pub use reporting::report;

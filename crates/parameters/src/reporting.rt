@@ -1,0 +1,73 @@
+ghost use mathlib.Core.Path.{_≡_};
+ghost use mathlib.Core.List.{_++_};
+ghost use Rattle.std.specs.Of.Vec.{vec-items};
+ghost use Rattle.std.specs.Vec.{made};
+ghost use Rattle.parameters.specs.Held.{outcomeNumber};
+ghost use Rattle.parameters.specs.Report.{lineText, summaryText, reported};
+ghost use Rattle.parameters.specs.Rows.{outcome};
+use crate::finding::Outcome;
+use crate::finding::examine;
+use crate::split::next_line;
+use std::alloc::AllocError;
+use std::alloc::Global;
+
+// How many lines there are, and of each outcome.
+#[derive(Clone, Copy)]
+struct Tally {
+    lines: u64,
+    same: u64,
+    different: u64,
+    not_compared: u64,
+}
+
+// The report on a file of parameters.
+pub fn report(heap: Global, file: &[u8]) -> Result<Vec<u8>, AllocError>
+    ensures { λ r. ⌜ made r (λ v. vec-items v ≡ reported (now (file .entry))) ⌝ }
+{
+    let mut text = Vec::new(heap);
+    let mut tally = Tally {
+        lines: 0,
+        same: 0,
+        different: 0,
+        not_compared: 0,
+    };
+    let mut rest = file;
+    while let Some((line, after)) = next_line(rest) {
+        tally.lines += 1;
+        match write_line(heap, &mut text, tally.lines, line)? {
+            Outcome::NotCompared => tally.not_compared += 1,
+            Outcome::Same => tally.same += 1,
+            Outcome::Different => tally.different += 1,
+        }
+        rest = after;
+    }
+    write_summary(heap, &mut text, tally)?;
+    Ok(text)
+}
+
+fn write_summary(heap: Global, text: &mut Vec<u8>, tally: Tally) -> Result<(), AllocError>
+    ensures { λ r. ⌜ made r (λ _. vec-items (now (text .exit)) ≡ vec-items (now (text .entry)) ++ summaryText (tally .lines) (tally .same) (tally .different) (tally .«not_compared»)) ⌝ }
+{
+    let lines = tally.lines;
+    let same = tally.same;
+    let different = tally.different;
+    let not_compared = tally.not_compared;
+    let end = format!(
+        heap,
+        "{lines} lines: {same} same, {different} different, {not_compared} not compared\n"
+    )?;
+    text.extend_from_slice(end.as_bytes())
+}
+
+fn write_line(heap: Global, text: &mut Vec<u8>, number: u64, line: &[u8]) -> Result<Outcome, AllocError>
+    ensures { λ r. ⌜ made r (λ o. (vec-items (now (text .exit)) ≡ vec-items (now (text .entry)) ++ lineText number (now (line .entry))) × (outcomeNumber o ≡ outcome (now (line .entry)))) ⌝ }
+{
+    let finding = examine(line);
+    let start = format!(heap, "line {number}: ")?;
+    text.extend_from_slice(start.as_bytes())?;
+    text.extend_from_slice(finding.before)?;
+    text.extend_from_slice(finding.name)?;
+    text.extend_from_slice(finding.after)?;
+    text.extend_from_slice(b"\n")?;
+    Ok(finding.outcome)
+}

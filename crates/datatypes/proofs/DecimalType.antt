@@ -1,39 +1,35 @@
--- The type `decimal` keeps the laws, and comparing what is read of two strings compares the strings.
-use mathlib.Core.Path.{_≡_, refl, sym, ap, _∙_}
-use mathlib.Core.Bool.{Bool, true, false, cond, _&&_}
+-- What is read of a string stands for the number that it writes.
+use mathlib.Core.Path.{_≡_, refl}
+use mathlib.Core.Bool.{false}
 use Prim.Native.Nat.{ℕ}
-use lib.Dec.{eqb}
-use Rattle.std.specs.declared.option.Option.the-variants.{Some}
-use Rattle.std.proofs.shelf.Tests.{and-parts, and-from}
+use Rattle.std.specs.declared.option.Option.{Option}
+use Rattle.std.specs.declared.option.Option.the-variants.{Some, None}
 use Rattle.datatypes.specs.declared.decimal.Decimal.{Decimal}
-use Rattle.datatypes.specs.Decimal.{held, Reads, decimalType, decimals}
-use Rattle.datatypes.specs.Meaning.{Bytes, LawfulType, same}
-use Rattle.datatypes.specs.Numeral.{isDecimal, written, equalValue}
-use Rattle.datatypes.proofs.Values.{equalValue-reflexive, equalValue-symmetric, equalValue-transitive, equalValue-same}
+use Rattle.datatypes.specs.Decimal.{held, Reads, decimals}
+use Rattle.datatypes.specs.Meaning.{Bytes, same}
+use Rattle.datatypes.specs.Numeral.{Number, decimalOf, equalValue}
+use Rattle.datatypes.specs.Values.{bothEqual}
+use Rattle.datatypes.proofs.Numbers.{equalValue-reflexive, equalValue-symmetric, equalValue-transitive, equalValue-same}
+use Rattle.datatypes.proofs.ValueTypes.{Equivalence}
 
--- what it says that two strings are same
-abbrev Both : Bytes → Bytes → Type 0
-Both a b = (isDecimal a ≡ true) × (isDecimal b ≡ true) × (equalValue (written a) (written b) ≡ true)
+pub equalValue-equivalence : Equivalence equalValue
+equalValue-equivalence = record { reflexive = equalValue-reflexive; symmetric = equalValue-symmetric; transitive = equalValue-transitive }
 
-parts : (a b : Bytes) → decimalType .same a b ≡ true → Both a b
-parts a b h = let p = and-parts (isDecimal a && isDecimal b) _ h in let q = and-parts (isDecimal a) (isDecimal b) (p .0) in (q .0, q .1, p .1)
+-- where one of two strings is no decimal they are not same
+pub reads-none : (o p : Option Number) → Reads o None → bothEqual equalValue o p ≡ false
+reads-none None p h = refl
+reads-none (Some x) p h = absurd h
 
-whole : (a b : Bytes) → Both a b → decimalType .same a b ≡ true
-whole a b h = and-from (isDecimal a && isDecimal b) _ (and-from (isDecimal a) (isDecimal b) (h .0) (h .1)) (h .2)
+pub reads-none-right : (o p : Option Number) → Reads p None → bothEqual equalValue o p ≡ false
+reads-none-right None p h = refl
+reads-none-right (Some x) None h = refl
+reads-none-right (Some x) (Some y) h = absurd h
 
-itself : (d e : Bool) → e ≡ true → (d && d && e) ≡ d
-itself true e h = h
-itself false e h = refl
+pub reads-same : (o p : Option Number) (x y : Decimal) → Reads o (Some x) → Reads p (Some y) → equalValue (held x) (held y) ≡ bothEqual equalValue o p
+reads-same None p x y h k = absurd h
+reads-same (Some v) None x y h k = absurd k
+reads-same (Some v) (Some w) x y h k = equalValue-same (held x) (held y) v w h k
 
-pub decimalType-lawful : LawfulType decimalType
-decimalType-lawful = record {
-  symmetric = λ a b h. let p = parts a b h in whole b a (p .1, p .0, equalValue-symmetric (written a) (written b) (p .2));
-  transitive = λ a b c h k.
-      let p = parts a b h in
-      let q = parts b c k in
-      whole a c (p .0, q .1, equalValue-transitive (written a) (written b) (written c) (p .2) (q .2));
-  reflexive = λ a. itself (isDecimal a) _ (equalValue-reflexive (written a));
-}
-
-pub same-read : (a b : Bytes) (x y : Decimal) → Reads a (Some x) → Reads b (Some y) → equalValue (held x) (held y) ≡ decimalType .same a b
-same-read a b x y h k = rw (h .0, k .0) (equalValue-same (held x) (held y) (written a) (written b) (h .1) (k .1))
+-- type 1 of the library is `decimal`
+pub same-decimals : (t : ℕ) (a b : Bytes) → t ≡ 1 → bothEqual equalValue (decimalOf a) (decimalOf b) ≡ same decimals t a b
+same-decimals t a b e = rw e

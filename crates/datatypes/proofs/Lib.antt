@@ -1,8 +1,8 @@
 pub mod Blanks
 pub mod DecimalType
 pub mod Laws
+pub mod Numbers
 pub mod Numerals
-pub mod Same
 pub mod Shown
 pub mod Tokens
-pub mod Values
+pub mod ValueTypes

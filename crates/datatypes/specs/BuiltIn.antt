@@ -1,6 +1,6 @@
 -- The built-in library: the types `string` and `token` of the empty URI.
 use mathlib.Core.List.{[], _∷_}
-use mathlib.Core.Bool.{Bool, true, false, cond}
+use mathlib.Core.Bool.{Bool, false, cond}
 use Prim.Native.Nat.{ℕ}
 use lib.Chars.{codes}
 use Rattle.std.specs.declared.option.Option.{Option}
@@ -8,6 +8,7 @@ use Rattle.std.specs.declared.option.Option.the-variants.{Some, None}
 use Rattle.std.specs.shelf.Text.{sameBytes}
 use Rattle.datatypes.specs.Blanks.{isBlank, trim}
 use Rattle.datatypes.specs.Meaning.{Bytes, Datatype, Meaning}
+use Rattle.datatypes.specs.Values.{valueType}
 
 -- A blank stands at the front.
 abbrev pub startsBlank : Bytes → Bool
@@ -23,20 +24,17 @@ squeeze (b ∷ s) = cond (isBlank b) (cond (startsBlank s) (squeeze s) (0x20 ∷
 abbrev pub collapse : Bytes → Bytes
 collapse s = squeeze (trim s)
 
--- A `string` may be any string, and two are same if they have the same bytes.
+-- Every string is a `string`, and stands for its bytes.
 abbrev pub string : Datatype
-string = record { allows = λ s. true; same = sameBytes }
+string = valueType (λ s. Some s) sameBytes
 
--- A `token` may be any string, and two are same if they have the same bytes once collapsed.
+-- Every string is a `token`, and stands for its bytes once collapsed.
 abbrev pub token : Datatype
-token = record { allows = λ s. true; same = λ a b. sameBytes (collapse a) (collapse b) }
+token = valueType (λ s. Some (collapse s)) sameBytes
 
--- Type 1 is `string` and type 2 is `token`.
+-- Type 1 is `string`, type 2 is `token`.
 abbrev pub builtInName : Bytes → Option ℕ
 builtInName name = cond (sameBytes name (codes "string")) (Some 1) (cond (sameBytes name (codes "token")) (Some 2) None)
 
 abbrev pub builtIn : Meaning
-builtIn = record {
-  types = string ∷ token ∷ [];
-  typeOf = λ uri name. cond (sameBytes uri []) (builtInName name) None;
-}
+builtIn = record { types = string ∷ token ∷ []; typeOf = λ uri name. cond (sameBytes uri []) (builtInName name) None }

@@ -9,7 +9,7 @@ use Rattle.std.specs.declared.option.Option.the-variants.{Some, None}
 use Rattle.std.specs.Options.{valueOr}
 use Rattle.datatypes.specs.declared.digits.Digits.{Digits}
 use Rattle.datatypes.specs.Meaning.{Bytes}
-use Rattle.datatypes.specs.Numeral.{isDigit, isPoint, every, count, isNumeral, readOn, afterPoint}
+use Rattle.datatypes.specs.Numeral.{Number, isDigit, isPoint, every, count, isNumeral, readOn, afterPoint}
 
 -- A string s makes a numeral of n digits and p points that stand before it.
 abbrev pub completes : ℕ → ℕ → Bytes → Bool
@@ -38,3 +38,7 @@ abbrev pub ReadsDigits : Bytes → Option Digits → Type 0
 ReadsDigits s None = isNumeral s ≡ false
 ReadsDigits s (Some d) =
     (isNumeral s ≡ true) × (d .magnitude ≡ readOn 0 s) × (valueOr (d .fraction) 0 ≡ count isDigit (afterPoint s))
+
+-- The number that a sign and digits write.
+abbrev pub number : Bool → Digits → Number
+number n d = record { negative = n; digits = d .magnitude; scale = valueOr (d .fraction) 0 }

@@ -7,3 +7,4 @@ pub mod Digits
 pub mod Meaning
 pub mod NormalForm
 pub mod Numeral
+pub mod Values

@@ -1,4 +1,4 @@
--- What a datatype library means: its types, and the laws that they keep.
+-- What a datatype library means: the types that it has, and the laws that they keep.
 use mathlib.Core.Path.{_≡_}
 use mathlib.Core.List.{List, [], _∷_}
 use mathlib.Core.Bool.{Bool, true, false, cond}
@@ -18,39 +18,39 @@ pub record Datatype : Type 0 where
   pub allows : Bytes → Bool
   pub same : Bytes → Bytes → Bool
 
+-- The meaning of a library: its types, which are numbered from 1 in this order, and the number of the type, if any, that a URI and a name stand for.
+pub record Meaning : Type 0 where
+  pub types : List Datatype
+  pub typeOf : Bytes → Bytes → Option ℕ
+
+-- A number that is no type allows no string, and no two strings are same.
+abbrev pub noType : Datatype
+noType = record { allows = λ s. false; same = λ a b. false }
+
+-- The type that has a number, counted from 1.
+abbrev pub typeNumbered : List Datatype → ℕ → Datatype
+typeNumbered [] t = noType
+typeNumbered (d ∷ ds) t = cond (eqb t 1) d (typeNumbered ds (t - 1))
+
+-- Type t allows the string s.
+abbrev pub allowed : Meaning → ℕ → Bytes → Bool
+allowed m t s = typeNumbered (m .types) t .allows s
+
+-- The strings a and b are same by type t.
+abbrev pub same : Meaning → ℕ → Bytes → Bytes → Bool
+same m t a b = typeNumbered (m .types) t .same a b
+
+-- Type t allows some string.
+abbrev pub SomeAllowed : Meaning → ℕ → Type 0
+SomeAllowed m t = (s : Bytes) × (allowed m t s ≡ true)
+
 -- The laws of a type: same is symmetric and transitive, and a string is same as itself exactly if it is allowed.
 pub record LawfulType (d : Datatype) : Type 0 where
   pub symmetric : (a b : Bytes) → d .same a b ≡ true → d .same b a ≡ true
   pub transitive : (a b c : Bytes) → d .same a b ≡ true → d .same b c ≡ true → d .same a c ≡ true
   pub reflexive : (a : Bytes) → d .same a a ≡ d .allows a
 
--- A library is a list of types, which are typeNumbered from 1 in its order, and the type number, if any, of each URI and name.
-pub record Meaning : Type 0 where
-  pub types : List Datatype
-  pub typeOf : Bytes → Bytes → Option ℕ
-
--- What a number that is no type gets: no string is allowed, and no two are same.
-abbrev pub noType : Datatype
-noType = record { allows = λ s. false; same = λ a b. false }
-
--- The type of a number.
-abbrev pub typeNumbered : List Datatype → ℕ → Datatype
-typeNumbered [] t = noType
-typeNumbered (d ∷ ds) t = cond (eqb t 1) d (typeNumbered ds (t - 1))
-
--- The string s is allowed by type t.
-abbrev pub allowed : Meaning → ℕ → Bytes → Bool
-allowed m t s = typeNumbered (m .types) t .allows s
-
--- The strings a and b are same under type t.
-abbrev pub same : Meaning → ℕ → Bytes → Bytes → Bool
-same m t a b = typeNumbered (m .types) t .same a b
-
--- Some string is allowed by type t.
-abbrev pub SomeAllowed : Meaning → ℕ → Type 0
-SomeAllowed m t = (s : Bytes) × (allowed m t s ≡ true)
-
--- A lawful library: each of its types keeps the laws, and the number of a URI and name is the number of a type.
+-- The laws of a library: each of its types keeps the laws of a type, and what a URI and a name stand for is one of its types.
 pub record Lawful (m : Meaning) : Type 0 where
   pub each : All LawfulType (m .types)
-  pub names : (uri name : Bytes) (t : ℕ) → m .typeOf uri name ≡ Some t → (1 ≤ t) × (t ≤ length (m .types))
+  pub known : (uri name : Bytes) (t : ℕ) → m .typeOf uri name ≡ Some t → (1 ≤ t) × (t ≤ length (m .types))

@@ -3,6 +3,8 @@ use mathlib.Core.List.{[], _∷_}
 use mathlib.Core.Bool.{Bool, true, false, cond, _&&_, _||_}
 use Prim.Native.Nat.{ℕ, suc, _+_, _-_, _*_, _^_}
 use lib.Dec.{eqb, leb}
+use Rattle.std.specs.declared.option.Option.{Option}
+use Rattle.std.specs.declared.option.Option.the-variants.{Some, None}
 use lib.IntN.{ℤ, pos, negsuc, negℤ, _*ℤ_}
 use Rattle.datatypes.specs.Blanks.{trim}
 use Rattle.datatypes.specs.Meaning.{Bytes}
@@ -70,6 +72,10 @@ written s = record {
   digits = readOn 0 (unsigned (trim s));
   scale = count isDigit (afterPoint (unsigned (trim s)));
 }
+
+-- The number that a string writes, if it is a decimal.
+abbrev pub decimalOf : Bytes → Option Number
+decimalOf s = cond (isDecimal s) (Some (written s)) None
 
 -- The value of a number is the fraction numerator / 10 ^ scale.
 abbrev pub numerator : Number → ℤ

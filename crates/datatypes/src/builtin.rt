@@ -1,24 +1,25 @@
-ghost use mathlib.Core.Path.{_≡_};
 ghost use Rattle.datatypes.specs.BuiltIn.{builtIn};
-use crate::bytes::equal;
+use crate::bytes::same_bytes;
 use crate::library::DatatypeLibrary;
 use crate::token::same_tokens;
 
-#[derive(Clone, Copy)]
-pub struct BuiltIn;
-
 const STRING: u32 = 1;
 const TOKEN: u32 = 2;
+
+/// The library of the empty URI. Its types `string` and `token` allow every string; strings compare by their bytes, tokens
+/// by their bytes once the blanks at the ends are dropped and each run of blanks inside is one byte 20.
+#[derive(Clone, Copy)]
+pub struct BuiltIn;
 
 pub impl DatatypeLibrary for BuiltIn as BuiltInLibrary {
     ghost meaning = { λ _. builtIn };
 
     fn find(&self, uri: &[u8], name: &[u8]) -> Option<u32> {
-        if !equal(uri, b"") {
+        if !same_bytes(uri, b"") {
             None
-        } else if equal(name, b"string") {
+        } else if same_bytes(name, b"string") {
             Some(STRING)
-        } else if equal(name, b"token") {
+        } else if same_bytes(name, b"token") {
             Some(TOKEN)
         } else {
             None
@@ -31,7 +32,7 @@ pub impl DatatypeLibrary for BuiltIn as BuiltInLibrary {
 
     fn same(&self, datatype: u32, a: &[u8], b: &[u8]) -> bool {
         match datatype {
-            STRING => equal(a, b),
+            STRING => same_bytes(a, b),
             TOKEN => same_tokens(a, b),
             _ => false,
         }

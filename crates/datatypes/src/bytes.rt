@@ -2,19 +2,21 @@ ghost use mathlib.Core.Path.{_≡_};
 ghost use Rattle.std.specs.shelf.Text.{sameBytes};
 ghost use Rattle.datatypes.specs.Blanks.{isBlank, dropBlanks, trim};
 
-pub fn equal(a: &[u8], b: &[u8]) -> bool
+/// Do two strings have the same bytes?
+pub fn same_bytes(a: &[u8], b: &[u8]) -> bool
     ensures { λ r. ⌜ r ≡ sameBytes (now (a .entry)) (now (b .entry)) ⌝ }
 {
     a == b
 }
 
-pub fn is_blank(b: u8) -> bool
+pub(crate) fn is_blank(b: u8) -> bool
     ensures { λ r. ⌜ r ≡ isBlank b ⌝ }
 {
     matches!(b, b' ' | b'\t' | b'\n' | b'\r')
 }
 
-pub fn skip_blanks(s: &[u8]) -> &[u8]
+/// A string without the blanks at its front.
+pub(crate) fn skip_blanks(s: &[u8]) -> &[u8]
     ensures { λ r. ⌜ now r ≡ dropBlanks (now (s .entry)) ⌝ }
 {
     let mut rest = s;
@@ -27,6 +29,7 @@ pub fn skip_blanks(s: &[u8]) -> &[u8]
     rest
 }
 
+/// A string without the blanks at both ends.
 pub fn trim_blanks(s: &[u8]) -> &[u8]
     ensures { λ r. ⌜ now r ≡ trim (now (s .entry)) ⌝ }
 {

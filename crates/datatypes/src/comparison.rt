@@ -2,12 +2,18 @@ ghost use mathlib.Core.Path.{_≡_};
 ghost use Rattle.datatypes.specs.Comparison.{answer, compared};
 use crate::library::DatatypeLibrary;
 
+/// What a library says of two strings under one of its types.
+#[derive(Clone, Copy, PartialEq, Eq, Debug)]
 pub enum Comparison {
+    /// The library has no such type.
     NoType,
+    /// The strings are same, so that both are allowed.
     Same,
+    /// The strings are not same; each is allowed or not.
     Different { left_allowed: bool, right_allowed: bool },
 }
 
+/// Compares two strings under the type that a URI and a name stand for.
 pub fn compare<L: DatatypeLibrary>(
     library: &L,
     uri: &[u8],

@@ -1,6 +1,9 @@
 ghost use Prim.Native.Nat.{_^_, _<_, _≤_};
 ghost use Rattle.datatypes.specs.NormalForm.{NoLastZero, PositiveZero};
 
+/// A decimal in its normal form, which the type holds: the digits as one number below 10^18, how many of them stand after
+/// the point, 0 to 18 and the last of them not 0, and the sign, which is plus at zero. So two are equal in value exactly if
+/// their fields are equal.
 #[derive(Clone, Copy, PartialEq, Eq, Debug)]
 pub struct Decimal {
     pub negative: bool,
@@ -9,5 +12,5 @@ pub struct Decimal {
     ghost bounded: { magnitude < 10 ^ 18 },
     ghost short: { fraction ≤ 18 },
     ghost trimmed: { NoLastZero magnitude fraction },
-    ghost signed: { PositiveZero magnitude negative },
+    ghost positive: { PositiveZero magnitude negative },
 }

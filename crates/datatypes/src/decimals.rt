@@ -1,12 +1,14 @@
 ghost use Rattle.datatypes.specs.Decimal.{decimals};
-use crate::bytes::equal;
 use crate::decimal::Decimal;
 use crate::library::DatatypeLibrary;
+use crate::library::find_only_type;
 
+/// The URI of the datatypes of XML Schema.
 pub const XML_SCHEMA_DATATYPES: &[u8] = b"http://www.w3.org/2001/XMLSchema-datatypes";
 
 const DECIMAL: u32 = 1;
 
+/// The library of decimals: its type `decimal` allows what `Decimal::parse` reads, and compares by value.
 #[derive(Clone, Copy)]
 pub struct Decimals;
 
@@ -14,13 +16,7 @@ pub impl DatatypeLibrary for Decimals as DecimalsLibrary {
     ghost meaning = { λ _. decimals };
 
     fn find(&self, uri: &[u8], name: &[u8]) -> Option<u32> {
-        if !equal(uri, XML_SCHEMA_DATATYPES) {
-            None
-        } else if equal(name, b"decimal") {
-            Some(DECIMAL)
-        } else {
-            None
-        }
+        find_only_type(XML_SCHEMA_DATATYPES, b"decimal", uri, name)
     }
 
     fn allows(&self, datatype: u32, s: &[u8]) -> bool {

@@ -1,3 +1,4 @@
+//! Datatype libraries: the interface behind which any of them can stand, the built-in strings, and decimals.
 mod builtin;
 mod bytes;
 mod comparison;
@@ -10,7 +11,12 @@ mod token;
 
 pub use builtin::BuiltIn;
 pub use builtin::BuiltInLibrary;
+pub use bytes::same_bytes;
+pub use bytes::trim_blanks;
 pub use comparison::Comparison;
+pub use comparison::ComparisonDebug;
+pub use comparison::ComparisonEq;
+pub use comparison::ComparisonPartialEq;
 pub use comparison::compare;
 pub use decimal::Decimal;
 pub use decimal::DecimalDebug;
@@ -20,3 +26,4 @@ pub use decimals::Decimals;
 pub use decimals::DecimalsLibrary;
 pub use decimals::XML_SCHEMA_DATATYPES;
 pub use library::DatatypeLibrary;
+pub use library::find_only_type;

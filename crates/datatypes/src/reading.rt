@@ -2,8 +2,8 @@ ghost use mathlib.Core.Path.{_≡_};
 ghost use mathlib.Core.Bool.{true};
 ghost use Rattle.std.specs.Options.{valueOr};
 ghost use Rattle.datatypes.specs.Decimal.{held, Reads};
-ghost use Rattle.datatypes.specs.Digits.{Pushed, ReadsDigits};
-ghost use Rattle.datatypes.specs.Numeral.{equalValue, startsMinus, unsigned};
+ghost use Rattle.datatypes.specs.Digits.{Pushed, ReadsDigits, number};
+ghost use Rattle.datatypes.specs.Numeral.{decimalOf, equalValue, startsMinus, unsigned};
 use crate::bytes::trim_blanks;
 use crate::decimal::Decimal;
 use crate::decimal::DecimalPartialEq;
@@ -11,7 +11,73 @@ use crate::digits::Digits;
 
 const MOST_DIGITS: u8 = 18;
 
+impl Decimal {
+    /// Reads a decimal: blanks at both ends are dropped, a sign may follow, and then 1 to 18 digits, leading and last zeros
+    /// counted, with at most one point anywhere among, before or after them.
+    pub fn parse(s: &[u8]) -> Option<Decimal>
+        ensures { λ r. ⌜ Reads (decimalOf (now (s .entry))) r ⌝ }
+    {
+        let (negative, numeral) = split_sign(trim_blanks(s));
+        let digits = Digits::read(numeral)?;
+        Some(Decimal::normal(negative, digits))
+    }
+
+    /// Are the two equal in value?
+    pub fn same_value(&self, other: &Decimal) -> bool
+        ensures { λ r. ⌜ r ≡ equalValue (held (now (self .entry))) (held (now (other .entry))) ⌝ }
+    {
+        *self == *other
+    }
+
+    // The normal form of the number that a sign and digits write.
+    fn normal(negative: bool, digits: Digits) -> Decimal
+        ensures { λ r. ⌜ equalValue (held r) (number negative digits) ≡ true ⌝ }
+    {
+        let mut magnitude = digits.magnitude;
+        let mut fraction = digits.fraction.unwrap_or(0);
+        while fraction > 0 && magnitude % 10 == 0 {
+            magnitude /= 10;
+            fraction -= 1;
+        }
+        Decimal {
+            negative: negative && magnitude > 0,
+            magnitude,
+            fraction,
+        }
+    }
+}
+
+// Is there a minus at the front, and what stands after the sign, if there is one?
+fn split_sign(s: &[u8]) -> (bool, &[u8])
+    ensures sign { λ r. ⌜ r .0 ≡ startsMinus (now (s .entry)) ⌝ }
+    ensures rest { λ r. ⌜ now (r .1) ≡ unsigned (now (s .entry)) ⌝ }
+{
+    match s {
+        [b'-', rest @ ..] => (true, rest),
+        [b'+', rest @ ..] => (false, rest),
+        _ => (false, s),
+    }
+}
+
 impl Digits {
+    // The digits of a whole numeral.
+    fn read(numeral: &[u8]) -> Option<Digits>
+        ensures { λ r. ⌜ ReadsDigits (now (numeral .entry)) r ⌝ }
+    {
+        let mut digits = Digits {
+            magnitude: 0,
+            count: 0,
+            fraction: None,
+        };
+        for b in numeral {
+            digits = digits.push(*b)?;
+        }
+        if digits.count == 0 {
+            return None;
+        }
+        Some(digits)
+    }
+
     // The digits with one byte more, or none where no numeral goes on so.
     fn push(self, b: u8) -> Option<Digits>
         ensures { λ r. ⌜ Pushed self b r ⌝ }
@@ -32,65 +98,5 @@ impl Digits {
             }),
             _ => None,
         }
-    }
-
-    fn read(numeral: &[u8]) -> Option<Digits>
-        ensures { λ r. ⌜ ReadsDigits (now (numeral .entry)) r ⌝ }
-    {
-        let mut digits = Digits {
-            magnitude: 0,
-            count: 0,
-            fraction: None,
-        };
-        for b in numeral {
-            digits = digits.push(*b)?;
-        }
-        if digits.count == 0 {
-            return None;
-        }
-        Some(digits)
-    }
-}
-
-impl Decimal {
-    pub fn parse(s: &[u8]) -> Option<Decimal>
-        ensures { λ r. ⌜ Reads (now (s .entry)) r ⌝ }
-    {
-        let (negative, numeral) = split_sign(trim_blanks(s));
-        let digits = Digits::read(numeral)?;
-        Some(Decimal::normal(negative, digits))
-    }
-
-    fn normal(negative: bool, digits: Digits) -> Decimal
-        ensures { λ r. ⌜ equalValue (held r) (record { negative = negative; digits = digits .magnitude; scale = valueOr (digits .fraction) 0 }) ≡ true ⌝ }
-    {
-        let mut magnitude = digits.magnitude;
-        let mut fraction = digits.fraction.unwrap_or(0);
-        while fraction > 0 && magnitude % 10 == 0 {
-            magnitude /= 10;
-            fraction -= 1;
-        }
-        Decimal {
-            negative: negative && magnitude > 0,
-            magnitude,
-            fraction,
-        }
-    }
-
-    pub fn same_value(&self, other: &Decimal) -> bool
-        ensures { λ r. ⌜ r ≡ equalValue (held (now (self .entry))) (held (now (other .entry))) ⌝ }
-    {
-        *self == *other
-    }
-}
-
-fn split_sign(s: &[u8]) -> (bool, &[u8])
-    ensures sign { λ r. ⌜ r .0 ≡ startsMinus (now (s .entry)) ⌝ }
-    ensures rest { λ r. ⌜ now (r .1) ≡ unsigned (now (s .entry)) ⌝ }
-{
-    match s {
-        [b'-', rest @ ..] => (true, rest),
-        [b'+', rest @ ..] => (false, rest),
-        _ => (false, s),
     }
 }

@@ -7,20 +7,23 @@ ghost use Rattle.datatypes.specs.Collapsed.{ahead, Takes};
 use crate::bytes::is_blank;
 use crate::bytes::skip_blanks;
 
+/// The bytes of a string as a token has them: without the blanks at the ends, and with one byte 20 for each run of blanks
+/// inside. They are found on the way through the string, so that nothing is copied.
 #[derive(Drop)]
-pub struct Collapsed<'a> {
+pub(crate) struct Collapsed<'a> {
+    // What is left of the string. At the start no blank stands at its front.
     rest: &'a [u8],
 }
 
 impl<'a> Collapsed<'a> {
-    pub fn new(s: &'a [u8]) -> Self
+    pub(crate) fn new(s: &'a [u8]) -> Self
         ensures { λ r. ⌜ ahead r ≡ collapse (now (s .entry)) ⌝ }
     {
         Collapsed { rest: skip_blanks(s) }
     }
 }
 
-pub impl Iterator for Collapsed<'_> as CollapsedIterator {
+impl Iterator for Collapsed<'_> as CollapsedIterator {
     type Item = u8;
 
     ghost steps = { λ c r d. Takes (ahead c) r (ahead d) };
@@ -37,6 +40,7 @@ pub impl Iterator for Collapsed<'_> as CollapsedIterator {
             self.rest = tail;
             return Some(*b);
         }
+        // A run of blanks counts only if something follows it.
         self.rest = skip_blanks(tail);
         if self.rest.is_empty() {
             return None;
@@ -45,7 +49,8 @@ pub impl Iterator for Collapsed<'_> as CollapsedIterator {
     }
 }
 
-pub fn same_tokens(a: &[u8], b: &[u8]) -> bool
+/// Are two strings same as tokens?
+pub(crate) fn same_tokens(a: &[u8], b: &[u8]) -> bool
     ensures { λ r. ⌜ r ≡ sameBytes (collapse (now (a .entry))) (collapse (now (b .entry))) ⌝ }
 {
     Collapsed::new(a).eq(Collapsed::new(b))

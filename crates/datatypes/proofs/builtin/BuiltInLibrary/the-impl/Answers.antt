@@ -1,8 +1,12 @@
-use Rattle.datatypes.specs.BuiltIn.{collapse}
 use native.Mathlib.Omega.{arith}
-use Rattle.std.proofs.shelf.Ways.{tells}
-use Rattle.datatypes.proofs.Same.{sameBy-lawful}
+use Rattle.std.specs.declared.option.Option.the-variants.{Some}
+use Rattle.std.specs.shelf.Text.{sameBytes}
+use Rattle.datatypes.specs.BuiltIn.{collapse}
+use Rattle.datatypes.proofs.ValueTypes.{valueType-lawful, sameBytes-equivalence}
 use Rattle.datatypes.proofs.builtin.BuiltInLibrary.the-impl.Needs as need
 
 pub lawful-law : need.lawful-law
-lawful-law x = record { each = (sameBy-lawful (λ s. s), (sameBy-lawful collapse, tt)); names = λ u n t e. grind arith }
+lawful-law x = record {
+  each = (valueType-lawful sameBytes sameBytes-equivalence (λ s. Some s), (valueType-lawful sameBytes sameBytes-equivalence (λ s. Some (collapse s)), tt));
+  known = λ uri name t e. grind arith;
+}

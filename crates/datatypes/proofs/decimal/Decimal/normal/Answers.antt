@@ -4,7 +4,7 @@ use borrow.Author.Needs.{needs}
 use Rattle.std.specs.Options.{valueOr}
 use Rattle.std.proofs.shelf.Ways.{tells}
 use Rattle.datatypes.proofs.Numerals.{room}
-use Rattle.datatypes.proofs.Values.{cut-zero, equal-by-parts}
+use Rattle.datatypes.proofs.Numbers.{cut-zero, equal-by-parts}
 use Rattle.datatypes.proofs.decimal.Decimal.normal.Needs as need
 use Rattle.datatypes.proofs.decimal.Decimal.normal.Needs.{then-loop-fraction-test·else-magnitude-eq0, else-loop-fraction-test, then-negative, else-negative}
 

@@ -3,7 +3,7 @@ use native.Mathlib.Omega.{arith}
 use Rattle.std.proofs.shelf.Ways.{same-from-decides}
 use Rattle.datatypes.specs.Decimal.{held}
 use Rattle.datatypes.specs.Numeral.{equalValue}
-use Rattle.datatypes.proofs.Values.{equalValue-decides, one-form}
+use Rattle.datatypes.proofs.Numbers.{equalValue-decides, one-form}
 use Rattle.datatypes.proofs.decimal.Decimal.same_value.Needs as need
 
 -- Numbers in normal form are equal in value exactly if their fields are equal.
@@ -13,5 +13,5 @@ returns c =
     let b = c .args .other .now in
     let e = c .eq .ensures in
     same-from-decides (c .eq .result) (equalValue (held a) (held b))
-    (λ r. (grind arith, λ _. grind arith), λ h. let f = one-form (held a) (held b) (a .trimmed) (b .trimmed) (a .signed) (b .signed) h in let n = ap (λ x. x .negative) f in let m = ap (λ x. x .digits) f in let k = ap (λ x. x .scale) f in grind (arith, n, m, k))
+    (λ r. (grind arith, λ _. grind arith), λ h. let f = one-form (held a) (held b) (a .trimmed) (b .trimmed) (a .positive) (b .positive) h in let n = ap (λ x. x .negative) f in let m = ap (λ x. x .digits) f in let k = ap (λ x. x .scale) f in grind (arith, n, m, k))
     (equalValue-decides (held a) (held b))

@@ -1,9 +1,22 @@
-use mathlib.Core.Path.{sym, ap, _∙_}
-use Rattle.std.proofs.shelf.Tests.{eq-eqb, cond-true}
-use Rattle.datatypes.specs.Meaning.{Datatype}
-use Rattle.datatypes.proofs.DecimalType.{same-read}
+use mathlib.Core.Path.{sym, _∙_}
+use Rattle.datatypes.specs.Numeral.{decimalOf}
+use Rattle.datatypes.proofs.DecimalType.{reads-none, reads-none-right, reads-same, same-decimals}
 use Rattle.datatypes.proofs.decimals.DecimalsLibrary.same.Needs as need
+
+pub returns-in-rest : need.returns-in-rest
+returns-in-rest c =
+    let a = c .args .a .now in
+    let b = c .args .b .now in
+    sym (reads-none (decimalOf a) (decimalOf b) (c .in-rest .ensures tt)) ∙ same-decimals (c .args .datatype) a b (c .if-datatype-ne-DECIMAL .left)
+
+pub returns-in-rest-parse : need.returns-in-rest-parse
+returns-in-rest-parse c =
+    let a = c .args .a .now in
+    let b = c .args .b .now in
+    sym (reads-none-right (decimalOf a) (decimalOf b) (c .in-rest-parse .ensures tt)) ∙ same-decimals (c .args .datatype) a b (c .if-datatype-ne-DECIMAL .left)
 
 pub returns : need.returns
 returns c =
-    c .same-value .ensures ∙ same-read (c .args .a .now) (c .args .b .now) (c .in-Some .x) (c .in-Some-parse .y) (c .in-Some .ensures tt) (c .in-Some-parse .ensures tt) ∙ ap (λ (d : Datatype). d .same (c .args .a .now) (c .args .b .now)) (sym (cond-true _ _ _ (eq-eqb (c .args .datatype) 1 (c .if-datatype-ne-DECIMAL .left))))
+    let a = c .args .a .now in
+    let b = c .args .b .now in
+    c .same-value .ensures ∙ reads-same (decimalOf a) (decimalOf b) (c .in-Some .x) (c .in-Some-parse .y) (c .in-Some .ensures tt) (c .in-Some-parse .ensures tt) ∙ same-decimals (c .args .datatype) a b (c .if-datatype-ne-DECIMAL .left)

@@ -1,13 +1,12 @@
 -- The built-in library: the types `string` and `token` of the empty URI.
 use mathlib.Core.List.{[], _∷_}
 use mathlib.Core.Bool.{Bool, false, cond}
-use Prim.Native.Nat.{ℕ}
 use lib.Chars.{codes}
-use Rattle.std.specs.declared.option.Option.{Option}
 use Rattle.std.specs.declared.option.Option.the-variants.{Some, None}
 use Rattle.std.specs.shelf.Text.{sameBytes}
 use Rattle.datatypes.specs.Blanks.{isBlank, trim}
 use Rattle.datatypes.specs.Meaning.{Bytes, Datatype, Meaning}
+use Rattle.datatypes.specs.Names.{sameName}
 use Rattle.datatypes.specs.Values.{valueType}
 
 -- A blank stands at the front.
@@ -33,8 +32,9 @@ abbrev pub token : Datatype
 token = valueType (λ s. Some (collapse s)) sameBytes
 
 -- Type 1 is `string`, type 2 is `token`.
-abbrev pub builtInName : Bytes → Option ℕ
-builtInName name = cond (sameBytes name (codes "string")) (Some 1) (cond (sameBytes name (codes "token")) (Some 2) None)
-
 abbrev pub builtIn : Meaning
-builtIn = record { types = string ∷ token ∷ []; typeOf = λ uri name. cond (sameBytes uri []) (builtInName name) None }
+builtIn = record {
+  types = string ∷ token ∷ [];
+  typeOf = λ uri name.
+      cond (sameName [] (codes "string") uri name) (Some 1) (cond (sameName [] (codes "token") uri name) (Some 2) None);
+}

@@ -1,10 +1,8 @@
 pub mod Blanks
 pub mod BuiltIn
-pub mod Collapsed
 pub mod Comparison
-pub mod Decimal
-pub mod Digits
+pub mod Decimals
 pub mod Meaning
-pub mod NormalForm
+pub mod Names
 pub mod Numeral
 pub mod Values

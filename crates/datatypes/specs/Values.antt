@@ -1,10 +1,8 @@
--- Ways to give the meaning of a library: types whose strings stand for values, and the one name of a library with one type.
-use mathlib.Core.Bool.{Bool, false, cond, _&&_}
-use Prim.Native.Nat.{ℕ}
+-- Types whose strings stand for values.
+use mathlib.Core.Bool.{Bool, false}
 use Rattle.std.specs.declared.option.Option.{Option}
 use Rattle.std.specs.declared.option.Option.the-variants.{Some, None}
 use Rattle.std.specs.Options.{isSome}
-use Rattle.std.specs.shelf.Text.{sameBytes}
 use Rattle.datatypes.specs.Meaning.{Bytes, Datatype}
 
 -- Two values are there, and they are equal.
@@ -16,7 +14,3 @@ bothEqual equal (Some x) (Some y) = equal x y
 -- The type of the strings that stand for a value: `read` gives the value of a string, if it has one, and strings are same if their values are equal.
 abbrev pub valueType : {V : Type 0} → (Bytes → Option V) → (V → V → Bool) → Datatype
 valueType read equal = record { allows = λ s. isSome (read s); same = λ a b. bothEqual equal (read a) (read b) }
-
--- In a library of one type, type 1 is what its own URI and name stand for.
-abbrev pub onlyType : Bytes → Bytes → Bytes → Bytes → Option ℕ
-onlyType ownUri ownName uri name = cond (sameBytes uri ownUri && sameBytes name ownName) (Some 1) None

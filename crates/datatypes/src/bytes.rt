@@ -1,22 +1,23 @@
 ghost use mathlib.Core.Path.{_≡_};
 ghost use Rattle.std.specs.shelf.Text.{sameBytes};
-ghost use Rattle.datatypes.specs.Blanks.{isBlank, dropBlanks, trim};
+ghost use Rattle.datatypes.specs.Blanks.{isBlank, dropBlanks, dropEndBlanks, trim};
 
-/// Do two strings have the same bytes?
-pub fn same_bytes(a: &[u8], b: &[u8]) -> bool
-    ensures { λ r. ⌜ r ≡ sameBytes (now (a .entry)) (now (b .entry)) ⌝ }
-{
-    a == b
-}
-
-pub(crate) fn is_blank(b: u8) -> bool
+/// Is the byte a blank: 20, 09, 0A or 0D?
+pub fn is_blank(b: u8) -> bool
     ensures { λ r. ⌜ r ≡ isBlank b ⌝ }
 {
     matches!(b, b' ' | b'\t' | b'\n' | b'\r')
 }
 
-/// A string without the blanks at its front.
-pub(crate) fn skip_blanks(s: &[u8]) -> &[u8]
+/// A string without the blanks at both ends.
+pub fn trim_blanks(s: &[u8]) -> &[u8]
+    ensures { λ r. ⌜ now r ≡ trim (now (s .entry)) ⌝ }
+{
+    skip_end_blanks(skip_blanks(s))
+}
+
+// A string without the blanks at its front.
+fn skip_blanks(s: &[u8]) -> &[u8]
     ensures { λ r. ⌜ now r ≡ dropBlanks (now (s .entry)) ⌝ }
 {
     let mut rest = s;
@@ -29,11 +30,11 @@ pub(crate) fn skip_blanks(s: &[u8]) -> &[u8]
     rest
 }
 
-/// A string without the blanks at both ends.
-pub fn trim_blanks(s: &[u8]) -> &[u8]
-    ensures { λ r. ⌜ now r ≡ trim (now (s .entry)) ⌝ }
+// A string without the blanks at its end.
+fn skip_end_blanks(s: &[u8]) -> &[u8]
+    ensures { λ r. ⌜ now r ≡ dropEndBlanks (now (s .entry)) ⌝ }
 {
-    let mut rest = skip_blanks(s);
+    let mut rest = s;
     while let [init @ .., b] = rest {
         if !is_blank(*b) {
             break;
@@ -41,4 +42,11 @@ pub fn trim_blanks(s: &[u8]) -> &[u8]
         rest = init;
     }
     rest
+}
+
+// Do two strings have the same bytes?
+pub(crate) fn same_bytes(a: &[u8], b: &[u8]) -> bool
+    ensures { λ r. ⌜ r ≡ sameBytes (now (a .entry)) (now (b .entry)) ⌝ }
+{
+    a == b
 }

@@ -10,7 +10,10 @@ pub enum Comparison {
     /// The strings are same, so that both are allowed.
     Same,
     /// The strings are not same; each is allowed or not.
-    Different { left_allowed: bool, right_allowed: bool },
+    Different {
+        left_allowed: bool,
+        right_allowed: bool,
+    },
 }
 
 /// Compares two strings under the type that a URI and a name stand for.

@@ -1,7 +1,7 @@
 ghost use mathlib.Core.Path.{_≡_};
 ghost use Rattle.std.specs.Orderings.{Decides};
 ghost use Rattle.datatypes.specs.Meaning.{Meaning, Lawful, allowed, same, SomeAllowed};
-ghost use Rattle.datatypes.specs.Values.{onlyType};
+ghost use Rattle.datatypes.specs.Names.{sameName, onlyType};
 use crate::bytes::same_bytes;
 
 /// A datatype library. Its meaning is one value: the types that it has, numbered from 1, and the type, if any, that each
@@ -31,11 +31,21 @@ pub trait DatatypeLibrary {
         ensures { λ r. ⌜ Decides r (SomeAllowed (meaning (now (self .entry))) datatype) ⌝ };
 }
 
-/// What a library of one type answers to `find`: type 1 where the URI and the name are its own.
+/// The URI of the datatypes of XML Schema.
+pub const XML_SCHEMA_DATATYPES: &[u8] = b"http://www.w3.org/2001/XMLSchema-datatypes";
+
+/// Are a URI and a name the two that a type has?
+pub fn same_name(own_uri: &[u8], own_name: &[u8], uri: &[u8], name: &[u8]) -> bool
+    ensures { λ r. ⌜ r ≡ sameName (now («own_uri» .entry)) (now («own_name» .entry)) (now (uri .entry)) (now (name .entry)) ⌝ }
+{
+    same_bytes(uri, own_uri) && same_bytes(name, own_name)
+}
+
+/// What a library of one type answers to `find`.
 pub fn find_only_type(own_uri: &[u8], own_name: &[u8], uri: &[u8], name: &[u8]) -> Option<u32>
     ensures { λ r. ⌜ r ≡ onlyType (now («own_uri» .entry)) (now («own_name» .entry)) (now (uri .entry)) (now (name .entry)) ⌝ }
 {
-    if same_bytes(uri, own_uri) && same_bytes(name, own_name) {
+    if same_name(own_uri, own_name, uri, name) {
         Some(1)
     } else {
         None

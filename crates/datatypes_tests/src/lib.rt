@@ -2,25 +2,27 @@
 //! for its tests.
 #[cfg(test)]
 mod tests {
-    use booleans::Booleans;
-    use booleans::BooleansLibrary;
-    use datatypes::BuiltIn;
-    use datatypes::BuiltInLibrary;
+    use builtin::BuiltIn;
+    use builtin::BuiltInLibrary;
     use datatypes::Comparison;
     use datatypes::ComparisonDebug;
     use datatypes::ComparisonPartialEq;
     use datatypes::DatatypeLibrary;
-    use datatypes::Decimal;
-    use datatypes::DecimalDebug;
-    use datatypes::DecimalPartialEq;
-    use datatypes::Decimals;
-    use datatypes::DecimalsLibrary;
     use datatypes::XML_SCHEMA_DATATYPES;
     use datatypes::compare;
+    use decimals::Decimal;
+    use decimals::DecimalDebug;
+    use decimals::DecimalPartialEq;
+    use decimals::Decimals;
+    use decimals::DecimalsLibrary;
     use std::test::*;
+    use switches::Switches;
+    use switches::SwitchesLibrary;
 
     const DECIMAL: u32 = 1;
+
     const STRING: u32 = 1;
+
     const TOKEN: u32 = 2;
 
     struct Pair {
@@ -29,15 +31,42 @@ mod tests {
     }
 
     const EQUAL_DECIMALS: [Pair; 9] = [
-        Pair { left: b" 07.0 ", right: b"7" },
-        Pair { left: b"-0", right: b"0" },
-        Pair { left: b"+.5", right: b"0.50" },
-        Pair { left: b"5.", right: b"+5" },
-        Pair { left: b"\t\n\r 5 \t\n\r", right: b"5" },
-        Pair { left: b"123456789012345678", right: b"123456789012345678." },
-        Pair { left: b".123456789012345670", right: b"0.12345678901234567" },
-        Pair { left: b"000000000000000007", right: b"7.00" },
-        Pair { left: b"-0.00000000000000000", right: b"0" },
+        Pair {
+            left: b" 07.0 ",
+            right: b"7",
+        },
+        Pair {
+            left: b"-0",
+            right: b"0",
+        },
+        Pair {
+            left: b"+.5",
+            right: b"0.50",
+        },
+        Pair {
+            left: b"5.",
+            right: b"+5",
+        },
+        Pair {
+            left: b"\t\n\r 5 \t\n\r",
+            right: b"5",
+        },
+        Pair {
+            left: b"123456789012345678",
+            right: b"123456789012345678.",
+        },
+        Pair {
+            left: b".123456789012345670",
+            right: b"0.12345678901234567",
+        },
+        Pair {
+            left: b"000000000000000007",
+            right: b"7.00",
+        },
+        Pair {
+            left: b"-0.00000000000000000",
+            right: b"0",
+        },
     ];
 
     #[test]
@@ -49,10 +78,22 @@ mod tests {
     }
 
     const UNEQUAL_DECIMALS: [Pair; 4] = [
-        Pair { left: b"1.5", right: b"-1.5" },
-        Pair { left: b"1.05", right: b"1.5" },
-        Pair { left: b"10", right: b"1" },
-        Pair { left: b"999999999999999999", right: b"99999999999999999.9" },
+        Pair {
+            left: b"1.5",
+            right: b"-1.5",
+        },
+        Pair {
+            left: b"1.05",
+            right: b"1.5",
+        },
+        Pair {
+            left: b"10",
+            right: b"1",
+        },
+        Pair {
+            left: b"999999999999999999",
+            right: b"99999999999999999.9",
+        },
     ];
 
     #[test]
@@ -122,19 +163,49 @@ mod tests {
     }
 
     const SAME_TOKENS: [Pair; 6] = [
-        Pair { left: b" a", right: b"a" },
-        Pair { left: b"\ta\nb\rc d", right: b"a b c d" },
-        Pair { left: b"a \t\n\r b", right: b"a b" },
-        Pair { left: b"a\r\n", right: b"\n\ta" },
-        Pair { left: b" \t\n\r", right: b"" },
-        Pair { left: b" \x00 \xff ", right: b"\x00 \xff" },
+        Pair {
+            left: b" a",
+            right: b"a",
+        },
+        Pair {
+            left: b"\ta\nb\rc d",
+            right: b"a b c d",
+        },
+        Pair {
+            left: b"a \t\n\r b",
+            right: b"a b",
+        },
+        Pair {
+            left: b"a\r\n",
+            right: b"\n\ta",
+        },
+        Pair {
+            left: b" \t\n\r",
+            right: b"",
+        },
+        Pair {
+            left: b" \x00 \xff ",
+            right: b"\x00 \xff",
+        },
     ];
 
     const DIFFERENT_TOKENS: [Pair; 4] = [
-        Pair { left: b"a b", right: b"ab" },
-        Pair { left: b"a\x0bb", right: b"a b" },
-        Pair { left: b"a", right: b"a b" },
-        Pair { left: b"a b", right: b"a c" },
+        Pair {
+            left: b"a b",
+            right: b"ab",
+        },
+        Pair {
+            left: b"a\x0bb",
+            right: b"a b",
+        },
+        Pair {
+            left: b"a",
+            right: b"a b",
+        },
+        Pair {
+            left: b"a b",
+            right: b"a c",
+        },
     ];
 
     #[test]
@@ -167,40 +238,94 @@ mod tests {
     #[test]
     fn numbers_that_are_no_type() -> Result<(), Fail> {
         for datatype in [0, 3, u32::MAX] {
-            check(!BuiltIn.allows(datatype, b"a") && !BuiltIn.same(datatype, b"a", b"a") && !BuiltIn.allows_any(datatype))?;
+            check(
+                !BuiltIn.allows(datatype, b"a")
+                    && !BuiltIn.same(datatype, b"a", b"a")
+                    && !BuiltIn.allows_any(datatype),
+            )?;
         }
         for datatype in [0, 2, u32::MAX] {
-            check(!Decimals.allows(datatype, b"1") && !Decimals.same(datatype, b"1", b"1") && !Decimals.allows_any(datatype))?;
+            check(
+                !Decimals.allows(datatype, b"1")
+                    && !Decimals.same(datatype, b"1", b"1")
+                    && !Decimals.allows_any(datatype),
+            )?;
         }
-        check(BuiltIn.allows_any(STRING) && BuiltIn.allows_any(TOKEN) && Decimals.allows_any(DECIMAL))
+        check(
+            BuiltIn.allows_any(STRING) && BuiltIn.allows_any(TOKEN) && Decimals.allows_any(DECIMAL),
+        )
     }
+
+    struct Named {
+        uri: &'static [u8],
+        name: &'static [u8],
+        string: Option<u32>,
+        decimal: Option<u32>,
+    }
+
+    const NAMES: [Named; 6] = [
+        Named {
+            uri: b"",
+            name: b"string",
+            string: Some(STRING),
+            decimal: None,
+        },
+        Named {
+            uri: b"",
+            name: b"token",
+            string: Some(TOKEN),
+            decimal: None,
+        },
+        Named {
+            uri: b"",
+            name: b"decimal",
+            string: None,
+            decimal: None,
+        },
+        Named {
+            uri: XML_SCHEMA_DATATYPES,
+            name: b"decimal",
+            string: None,
+            decimal: Some(DECIMAL),
+        },
+        Named {
+            uri: XML_SCHEMA_DATATYPES,
+            name: b"string",
+            string: None,
+            decimal: None,
+        },
+        Named {
+            uri: XML_SCHEMA_DATATYPES,
+            name: b"Decimal",
+            string: None,
+            decimal: None,
+        },
+    ];
 
     #[test]
     fn names() -> Result<(), Fail> {
-        check_eq(BuiltIn.find(b"", b"string"), Some(STRING))?;
-        check_eq(BuiltIn.find(b"", b"token"), Some(TOKEN))?;
-        check_eq(BuiltIn.find(b"", b"decimal"), None)?;
-        check_eq(BuiltIn.find(XML_SCHEMA_DATATYPES, b"string"), None)?;
-        check_eq(Decimals.find(XML_SCHEMA_DATATYPES, b"decimal"), Some(DECIMAL))?;
-        check_eq(Decimals.find(b"", b"decimal"), None)?;
-        check_eq(Decimals.find(XML_SCHEMA_DATATYPES, b"Decimal"), None)
+        for named in &NAMES {
+            check_eq(BuiltIn.find(named.uri, named.name), named.string)?;
+            check_eq(Decimals.find(named.uri, named.name), named.decimal)?;
+        }
+        Ok(())
     }
 
     #[test]
     fn another_library() -> Result<(), Fail> {
         check_eq(
-            compare(&Booleans, XML_SCHEMA_DATATYPES, b"boolean", b" true", b"1\n"),
+            compare(&Switches, b"urn:example:switches", b"switch", b" Y", b"1\n"),
             Comparison::Same,
         )?;
         check_eq(
-            compare(&Booleans, XML_SCHEMA_DATATYPES, b"boolean", b"true", b"yes"),
+            compare(&Switches, b"urn:example:switches", b"switch", b"Y", b"yes"),
             Comparison::Different {
                 left_allowed: true,
                 right_allowed: false,
             },
         )?;
         check_eq(
-            compare(&Booleans, b"", b"boolean", b"true", b"true"),
+            compare(&Switches, b"", b"switch", b"Y", b"Y"),
             Comparison::NoType,
         )
     }

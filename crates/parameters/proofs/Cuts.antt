@@ -22,7 +22,7 @@ pub cut-there : (s : Bytes) (i c : ℕ) → i < length s → getD s i 0 ≡ c �
 cut-there s i c lt here before =
     rw sub-zero (
       sym (take-append-drop i s) ∙ ap (λ t. take i s ++ t) (drop-more s i 0 lt ∙ ap (λ b. b ∷ drop (i + 1) s) here ∙ ap (λ t. c ∷ t) (sym (take-rest s (i + 1)))),
-      λ k h e. let low : k < i = omega (arith, simp length-take at h) in before k (omega arith) (sym (getD-take i s k 0 (omega arith)) ∙ e)
+      λ k h e. let low : k < i = omega (arith, simp length-take at h) in before k (omega arith) (sym (getD-take i s k 0 (omega arith)) ∙ e),
     )
 
 lacks-first : (c b : ℕ) (s : Bytes) → Lacks c (b ∷ s) → b ≡ c → ⊥

@@ -3,19 +3,17 @@ use mathlib.Core.Path.{_≡_, refl, sym, ap, _∙_}
 use mathlib.Core.Bool.{Bool, true, false, cond}
 use mathlib.Core.List.{List, [], _∷_, _++_, append-assoc, append-nil}
 use Prim.Native.Nat.{ℕ, suc, _+_, _<_, _≤_}
-use native.Mathlib.Nat.{add-suc}
 use native.Mathlib.Omega.{arith}
 use lib.Dec.{eqb}
 use lib.ListN.{length}
-use Rattle.std.proofs.shelf.Ways.{tells}
 use Rattle.datatypes.specs.Meaning.{Bytes}
 use Rattle.parameters.specs.Lines.{lines}
-use Rattle.parameters.specs.Report.{lineText, linesText, tally, summaryText, summary, reported}
+use Rattle.parameters.specs.Report.{lineText, linesText, tally}
 use Rattle.parameters.specs.Rows.{outcome}
 
--- n lines of a file have been reported, of which s were same, d different and u not compared; rest is what is left
-pub record Sofar (file rest text : Bytes) (n s d u : ℕ) : Type 0 where
-  pub texts : text ++ linesText (n + 1) (lines rest) ≡ linesText 1 (lines file)
+-- n lines of a file have been written after what stood before, of which s were same, d different and u not compared; rest is what is left
+pub record Sofar (file before rest text : Bytes) (n s d u : ℕ) : Type 0 where
+  pub texts : text ++ linesText (n + 1) (lines rest) ≡ before ++ linesText 1 (lines file)
   pub count : n + length (lines rest) ≡ length (lines file)
   pub sames : s + tally 1 (lines rest) ≡ tally 1 (lines file)
   pub differents : d + tally 2 (lines rest) ≡ tally 2 (lines file)
@@ -23,9 +21,9 @@ pub record Sofar (file rest text : Bytes) (n s d u : ℕ) : Type 0 where
   pub few : n + length rest ≤ length file
   pub all : s + d + u ≡ n
 
-pub begin : (file text : Bytes) → text ≡ [] → Sofar file file text 0 0 0 0
-begin file text e = record {
-  texts = ap (λ t. t ++ linesText 1 (lines file)) e;
+pub begin : (file text : Bytes) → Sofar file text file text 0 0 0 0
+begin file text = record {
+  texts = refl;
   count = omega arith;
   sames = omega arith;
   differents = omega arith;
@@ -42,9 +40,9 @@ tally-more k x line ls = go (eqb (outcome line) k)
     go true = omega arith
     go false = omega arith
 
-module _ {file rest text : Bytes} {n s d u : ℕ} (so : Sofar file rest text n s d u) where
+module _ {file before rest text : Bytes} {n s d u : ℕ} (so : Sofar file before rest text n s d u) where
   -- a line is taken off, and its outcome counted
-  step : (line after more : Bytes) (s′ d′ u′ : ℕ) → lines rest ≡ line ∷ lines after → length after < length rest → more ≡ text ++ lineText (n + 1) line → s′ ≡ s + cond (eqb (outcome line) 1) 1 0 → d′ ≡ d + cond (eqb (outcome line) 2) 1 0 → u′ ≡ u + cond (eqb (outcome line) 0) 1 0 → s′ + d′ + u′ ≡ n + 1 → Sofar file after more (n + 1) s′ d′ u′
+  step : (line after more : Bytes) (s′ d′ u′ : ℕ) → lines rest ≡ line ∷ lines after → length after < length rest → more ≡ text ++ lineText (n + 1) line → s′ ≡ s + cond (eqb (outcome line) 1) 1 0 → d′ ≡ d + cond (eqb (outcome line) 2) 1 0 → u′ ≡ u + cond (eqb (outcome line) 0) 1 0 → s′ + d′ + u′ ≡ n + 1 → Sofar file before after more (n + 1) s′ d′ u′
   step line after more s′ d′ u′ e lt f a b c sum = record {
     texts = ap (λ t. t ++ linesText (n + 1 + 1) (lines after)) f ∙ append-assoc text (lineText (n + 1) line) (linesText (n + 1 + 1) (lines after)) ∙ ap (λ ls. text ++ linesText (n + 1) ls) (sym e) ∙ so .texts;
     count = omega (arith, so .count, ap length e);
@@ -56,21 +54,23 @@ module _ {file rest text : Bytes} {n s d u : ℕ} (so : Sofar file rest text n s
   }
 
   module _ (line after more : Bytes) (e : lines rest ≡ line ∷ lines after) (lt : length after < length rest) (f : more ≡ text ++ lineText (n + 1) line) where
-    pub step-same : 1 ≡ outcome line → Sofar file after more (n + 1) (s + 1) d u
+    pub step-same : 1 ≡ outcome line → Sofar file before after more (n + 1) (s + 1) d u
     step-same o = step line after more (s + 1) d u e lt f (rw (← o)) (rw (← o) (omega arith)) (rw (← o) (omega arith)) (omega (arith, so .all))
 
-    pub step-different : 2 ≡ outcome line → Sofar file after more (n + 1) s (d + 1) u
+    pub step-different : 2 ≡ outcome line → Sofar file before after more (n + 1) s (d + 1) u
     step-different o = step line after more s (d + 1) u e lt f (rw (← o) (omega arith)) (rw (← o)) (rw (← o) (omega arith)) (omega (arith, so .all))
 
-    pub step-other : 0 ≡ outcome line → Sofar file after more (n + 1) s d (u + 1)
+    pub step-other : 0 ≡ outcome line → Sofar file before after more (n + 1) s d (u + 1)
     step-other o = step line after more s d (u + 1) e lt f (rw (← o) (omega arith)) (rw (← o) (omega arith)) (rw (← o)) (omega (arith, so .all))
 
-  pub end : rest ≡ [] → (after : Bytes) → after ≡ text ++ summaryText n s d u → after ≡ reported file
-  end none after e =
-      let no-lines : lines rest ≡ [] = ap lines none in
-      let t : text ≡ linesText 1 (lines file) = sym (append-nil text) ∙ ap (λ ls. text ++ linesText (n + 1) ls) (sym no-lines) ∙ so .texts in
-      let a : n ≡ length (lines file) = omega (arith, so .count, ap length no-lines) in
-      let b : s ≡ tally 1 (lines file) = omega (arith, so .sames, ap (tally 1) no-lines) in
-      let c : d ≡ tally 2 (lines file) = omega (arith, so .differents, ap (tally 2) no-lines) in
-      let f : u ≡ tally 0 (lines file) = omega (arith, so .others, ap (tally 0) no-lines) in
-      e ∙ (λ i. t i ++ summaryText (a i) (b i) (c i) (f i))
+  pub end-text : rest ≡ [] → text ≡ before ++ linesText 1 (lines file)
+  end-text none = sym (append-nil text) ∙ ap (λ ls. text ++ linesText (n + 1) ls) (sym (ap lines none)) ∙ so .texts
+
+  pub end-counts : rest ≡ [] → (n ≡ length (lines file)) × (s ≡ tally 1 (lines file)) × (d ≡ tally 2 (lines file)) × (u ≡ tally 0 (lines file))
+  end-counts none =
+      let no-lines : lines rest ≡ [] = ap lines none in (
+        omega (arith, so .count, ap length no-lines),
+        omega (arith, so .sames, ap (tally 1) no-lines),
+        omega (arith, so .differents, ap (tally 2) no-lines),
+        omega (arith, so .others, ap (tally 0) no-lines),
+      )

@@ -1,11 +1,15 @@
 -- What the crate's own types stand for.
-use mathlib.Core.List.{_++_}
+use mathlib.Core.Path.{_≡_}
+use mathlib.Core.List.{List, _++_}
 use Prim.Native.Nat.{ℕ}
+use lib.ListN.{length}
 use Rattle.datatypes.specs.Meaning.{Bytes}
 use Rattle.parameters.specs.declared.finding.Finding.{Finding}
 use Rattle.parameters.specs.declared.finding.Outcome.{Outcome}
 use Rattle.parameters.specs.declared.finding.Outcome.the-variants.{NotCompared, Same, Different}
+use Rattle.parameters.specs.declared.reporting.Tally.{Tally}
 use Rattle.parameters.specs.declared.rows.ParameterRow.{ParameterRow}
+use Rattle.parameters.specs.Report.{tally, summaryText}
 use Rattle.parameters.specs.Rows.{Row}
 
 -- The row that a `ParameterRow` points to.
@@ -21,3 +25,12 @@ outcomeNumber Different = 2
 -- The text of a `Finding`.
 abbrev pub findingText : Finding → Bytes
 findingText f = f .before .now ++ (f .name .now ++ f .after .now)
+
+-- A `Tally` counts lines: how many they are, and how many there are of each outcome.
+abbrev pub Counts : Tally → List Bytes → Type 0
+Counts t ls =
+    (t .lines ≡ length ls) × (t .same ≡ tally 1 ls) × (t .different ≡ tally 2 ls) × (t .«not_compared» ≡ tally 0 ls)
+
+-- The summary of a `Tally`.
+abbrev pub summaryOf : Tally → Bytes
+summaryOf t = summaryText (t .lines) (t .same) (t .different) (t .«not_compared»)

@@ -2,13 +2,13 @@
 use mathlib.Core.List.{List, [], _∷_}
 use mathlib.Core.Bool.{cond}
 use Prim.Native.Nat.{ℕ}
-use lib.Chars.{codes}
 use lib.Dec.{eqb}
 use Rattle.std.specs.declared.option.Option.{Option}
 use Rattle.std.specs.declared.option.Option.the-variants.{Some, None}
 use Rattle.datatypes.specs.BuiltIn.{builtIn}
 use Rattle.datatypes.specs.Comparison.{Answer, compared}
-use Rattle.datatypes.specs.Decimal.{decimals}
+use Rattle.datatypes.specs.Decimals.{decimals}
+use Rattle.datatypes.specs.Names.{xmlSchemaDatatypes}
 use Rattle.datatypes.specs.Meaning.{Bytes}
 use Rattle.parameters.specs.Lines.{fields}
 
@@ -34,7 +34,7 @@ orElse a b = cond (eqb (a .number) 0) b a
 abbrev pub judged : Row → Answer
 judged r =
     orElse (compared builtIn [] (r .name) (r .left) (r .right))
-    (compared decimals (codes "http://www.w3.org/2001/XMLSchema-datatypes") (r .name) (r .left) (r .right))
+    (compared decimals xmlSchemaDatatypes (r .name) (r .left) (r .right))
 
 -- The outcome of a line is the number of the answer: 1 for same, 2 for different, and 0 for not compared, as a line is that is no row.
 abbrev pub rowOutcome : Option Row → ℕ

@@ -49,7 +49,10 @@ pub(crate) fn examine(line: &[u8]) -> Finding<'_>
             after: b": left allowed, right allowed, same",
             outcome: Outcome::Same,
         },
-        Comparison::Different { left_allowed, right_allowed } => Finding {
+        Comparison::Different {
+            left_allowed,
+            right_allowed,
+        } => Finding {
             before: b"",
             name: row.name,
             after: difference(left_allowed, right_allowed),

@@ -2,8 +2,9 @@ ghost use mathlib.Core.Path.{_≡_};
 ghost use mathlib.Core.List.{_++_};
 ghost use Rattle.std.specs.Of.Vec.{vec-items};
 ghost use Rattle.std.specs.Vec.{made};
-ghost use Rattle.parameters.specs.Held.{outcomeNumber};
-ghost use Rattle.parameters.specs.Report.{lineText, summaryText, reported};
+ghost use Rattle.parameters.specs.Held.{outcomeNumber, Counts, summaryOf};
+ghost use Rattle.parameters.specs.Lines.{lines};
+ghost use Rattle.parameters.specs.Report.{lineText, linesText, reported};
 ghost use Rattle.parameters.specs.Rows.{outcome};
 use crate::finding::Outcome;
 use crate::finding::examine;
@@ -20,11 +21,20 @@ struct Tally {
     not_compared: u64,
 }
 
-// The report on a file of parameters.
+/// The report on a file of parameters: what is found of each line, and a summary.
 pub fn report(heap: Global, file: &[u8]) -> Result<Vec<u8>, AllocError>
     ensures { λ r. ⌜ made r (λ v. vec-items v ≡ reported (now (file .entry))) ⌝ }
 {
     let mut text = Vec::new(heap);
+    let tally = write_lines(heap, &mut text, file)?;
+    write_summary(heap, &mut text, tally)?;
+    Ok(text)
+}
+
+// Writes what is found of each line.
+fn write_lines(heap: Global, text: &mut Vec<u8>, file: &[u8]) -> Result<Tally, AllocError>
+    ensures { λ r. ⌜ made r (λ t. (vec-items (now (text .exit)) ≡ vec-items (now (text .entry)) ++ linesText 1 (lines (now (file .entry)))) × Counts t (lines (now (file .entry)))) ⌝ }
+{
     let mut tally = Tally {
         lines: 0,
         same: 0,
@@ -34,19 +44,18 @@ pub fn report(heap: Global, file: &[u8]) -> Result<Vec<u8>, AllocError>
     let mut rest = file;
     while let Some((line, after)) = next_line(rest) {
         tally.lines += 1;
-        match write_line(heap, &mut text, tally.lines, line)? {
+        match write_line(heap, text, tally.lines, line)? {
             Outcome::NotCompared => tally.not_compared += 1,
             Outcome::Same => tally.same += 1,
             Outcome::Different => tally.different += 1,
         }
         rest = after;
     }
-    write_summary(heap, &mut text, tally)?;
-    Ok(text)
+    Ok(tally)
 }
 
 fn write_summary(heap: Global, text: &mut Vec<u8>, tally: Tally) -> Result<(), AllocError>
-    ensures { λ r. ⌜ made r (λ _. vec-items (now (text .exit)) ≡ vec-items (now (text .entry)) ++ summaryText (tally .lines) (tally .same) (tally .different) (tally .«not_compared»)) ⌝ }
+    ensures { λ r. ⌜ made r (λ _. vec-items (now (text .exit)) ≡ vec-items (now (text .entry)) ++ summaryOf tally) ⌝ }
 {
     let lines = tally.lines;
     let same = tally.same;
@@ -59,7 +68,12 @@ fn write_summary(heap: Global, text: &mut Vec<u8>, tally: Tally) -> Result<(), A
     text.extend_from_slice(end.as_bytes())
 }
 
-fn write_line(heap: Global, text: &mut Vec<u8>, number: u64, line: &[u8]) -> Result<Outcome, AllocError>
+fn write_line(
+    heap: Global,
+    text: &mut Vec<u8>,
+    number: u64,
+    line: &[u8],
+) -> Result<Outcome, AllocError>
     ensures { λ r. ⌜ made r (λ o. (vec-items (now (text .exit)) ≡ vec-items (now (text .entry)) ++ lineText number (now (line .entry))) × (outcomeNumber o ≡ outcome (now (line .entry)))) ⌝ }
 {
     let finding = examine(line);

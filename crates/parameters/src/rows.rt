@@ -5,13 +5,13 @@ ghost use Rattle.parameters.specs.Lines.{fields};
 ghost use Rattle.parameters.specs.Rows.{row, judged};
 ghost use Rattle.datatypes.specs.Comparison.{answer};
 use crate::split::split_once;
-use datatypes::BuiltIn;
-use datatypes::BuiltInLibrary;
+use builtin::BuiltIn;
+use builtin::BuiltInLibrary;
 use datatypes::Comparison;
-use datatypes::Decimals;
-use datatypes::DecimalsLibrary;
 use datatypes::XML_SCHEMA_DATATYPES;
 use datatypes::compare;
+use decimals::Decimals;
+use decimals::DecimalsLibrary;
 
 // The values that two systems hold for one parameter, and the name of their type.
 #[derive(Clone, Copy)]

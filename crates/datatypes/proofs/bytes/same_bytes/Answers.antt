@@ -1,6 +1,5 @@
-use Rattle.std.proofs.shelf.Equals.{matches-decides, sameBytes-decides}
-use Rattle.std.proofs.shelf.Ways.{same-from-decides}
+use Rattle.datatypes.proofs.Slices.{same-slices}
 use Rattle.datatypes.proofs.bytes.same_bytes.Needs as need
 
 pub returns : need.returns
-returns c = same-from-decides _ _ (matches-decides _ _ _ (c .eq .ensures)) (sameBytes-decides (c .args .a .now) (c .args .b .now))
+returns c = same-slices (c .args .a .now) (c .args .b .now) (c .eq .result) (c .eq .ensures)

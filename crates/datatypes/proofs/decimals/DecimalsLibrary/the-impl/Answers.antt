@@ -1,8 +1,0 @@
-use native.Mathlib.Omega.{arith}
-use Rattle.datatypes.specs.Numeral.{decimalOf, equalValue}
-use Rattle.datatypes.proofs.DecimalType.{equalValue-equivalence}
-use Rattle.datatypes.proofs.ValueTypes.{valueType-lawful}
-use Rattle.datatypes.proofs.decimals.DecimalsLibrary.the-impl.Needs as need
-
-pub lawful-law : need.lawful-law
-lawful-law x = record { each = (valueType-lawful equalValue equalValue-equivalence decimalOf, tt); known = λ uri name t e. grind arith }

@@ -1,5 +1,5 @@
 -- The text of a line, put together of pieces.
-use mathlib.Core.Path.{_≡_, _∙_}
+use mathlib.Core.Path.{_≡_, ap, _∙_}
 use mathlib.Core.List.{_++_, append-assoc}
 use Prim.Native.Nat.{ℕ}
 use lib.Chars.{codes}
@@ -9,8 +9,17 @@ use Rattle.parameters.specs.Lines.{fields}
 use Rattle.parameters.specs.Report.{found, lineText}
 use Rattle.parameters.specs.Rows.{row}
 
-joined : (t s b m a line : Bytes) (n : ℕ) → s ≡ codes "line " ++ (decimal n ++ codes ": ") → b ++ (m ++ a) ≡ found (row (fields line)) → t ++ s ++ b ++ m ++ a ++ codes "\n" ≡ t ++ lineText n line
-joined t s b m a line n e f = rw (e, ← f) (simp append-assoc)
+regrouped : (t b m a z : Bytes) → t ++ b ++ m ++ a ++ z ≡ t ++ ((b ++ (m ++ a)) ++ z)
+regrouped t b m a z = simp append-assoc
 
-pub line-joined : (t s b m a line after : Bytes) (n : ℕ) → s ≡ codes "line " ++ (decimal n ++ codes ": ") → b ++ (m ++ a) ≡ found (row (fields line)) → after ≡ t ++ s ++ b ++ m ++ a ++ codes "\n" → after ≡ t ++ lineText n line
-line-joined t s b m a line after n e f g = g ∙ joined t s b m a line n e f
+-- the pieces of a finding, one after another
+pub finding-joined : (t b m a z after : Bytes) → after ≡ t ++ b ++ m ++ a ++ z → after ≡ t ++ ((b ++ (m ++ a)) ++ z)
+finding-joined t b m a z after e = e ∙ regrouped t b m a z
+
+joined : (t d f : Bytes) → t ++ (codes "line " ++ (d ++ codes ": ")) ++ f ≡ t ++ (codes "line " ++ (d ++ (codes ": " ++ f)))
+joined t d f = simp append-assoc
+
+-- the start s of a line, after which m stands, and then what is found of it
+pub line-joined : (t s m f line after start : Bytes) (n : ℕ) → s ≡ start → start ≡ codes "line " ++ (decimal n ++ codes ": ") → f ≡ found (row (fields line)) → m ≡ t ++ s → after ≡ m ++ (f ++ codes "\n") → after ≡ t ++ lineText n line
+line-joined t s m f line after start n a b k h g =
+    g ∙ ap (λ x. x ++ (f ++ codes "\n")) (h ∙ ap (λ x. t ++ x) (a ∙ b)) ∙ joined t (decimal n) (f ++ codes "\n") ∙ ap (λ x. t ++ (codes "line " ++ (decimal n ++ (codes ": " ++ (x ++ codes "\n"))))) k

@@ -1,11 +1,13 @@
 ghost use mathlib.Core.Path.{_≡_};
 ghost use mathlib.Core.List.{_++_};
+ghost use lib.Chars.{codes};
 ghost use Rattle.std.specs.Of.Vec.{vec-items};
 ghost use Rattle.std.specs.Vec.{made};
-ghost use Rattle.parameters.specs.Held.{outcomeNumber, Counts, summaryOf};
+ghost use Rattle.parameters.specs.Held.{outcomeNumber, findingText, Counts, summaryOf};
 ghost use Rattle.parameters.specs.Lines.{lines};
 ghost use Rattle.parameters.specs.Report.{lineText, linesText, reported};
 ghost use Rattle.parameters.specs.Rows.{outcome};
+use crate::finding::Finding;
 use crate::finding::Outcome;
 use crate::finding::examine;
 use crate::split::next_line;
@@ -79,9 +81,16 @@ fn write_line(
     let finding = examine(line);
     let start = format!(heap, "line {number}: ")?;
     text.extend_from_slice(start.as_bytes())?;
+    write_finding(text, finding)?;
+    Ok(finding.outcome)
+}
+
+fn write_finding(text: &mut Vec<u8>, finding: Finding<'_>) -> Result<(), AllocError>
+    ensures { λ r. ⌜ made r (λ _. vec-items (now (text .exit)) ≡ vec-items (now (text .entry)) ++ (findingText (finding .entry) ++ codes "\n")) ⌝ }
+{
     text.extend_from_slice(finding.before)?;
     text.extend_from_slice(finding.name)?;
     text.extend_from_slice(finding.after)?;
     text.extend_from_slice(b"\n")?;
-    Ok(finding.outcome)
+    Ok(())
 }

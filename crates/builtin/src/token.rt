@@ -8,7 +8,7 @@ use datatypes::is_blank;
 use datatypes::trim_blanks;
 
 /// The bytes of a string as a token has them: without the blanks at both ends, and with one byte 20 for each run of blanks
-/// inside. They are found on the way through the string, so that nothing is copied.
+/// inside. They are found on one way through the string, and nothing is copied.
 #[derive(Drop)]
 pub(crate) struct Collapsed<'a> {
     // What is left of the string, of which no end is blank at the start.

@@ -19,15 +19,119 @@ mod tests {
     use switches::Switches;
     use switches::SwitchesLibrary;
 
-    const DECIMAL: u32 = 1;
-
     const STRING: u32 = 1;
 
     const TOKEN: u32 = 2;
 
+    const DECIMAL: u32 = 1;
+
+    #[derive(Clone, Copy)]
+    enum Kind {
+        String,
+        Token,
+        Decimal,
+        Switch,
+    }
+
     struct Pair {
         left: &'static [u8],
         right: &'static [u8],
+    }
+
+    fn compare_pair(kind: Kind, pair: &Pair) -> Comparison {
+        match kind {
+            Kind::String => compare(&BuiltIn, b"", b"string", pair.left, pair.right),
+            Kind::Token => compare(&BuiltIn, b"", b"token", pair.left, pair.right),
+            Kind::Decimal => compare(
+                &Decimals,
+                XML_SCHEMA_DATATYPES,
+                b"decimal",
+                pair.left,
+                pair.right,
+            ),
+            Kind::Switch => compare(
+                &Switches,
+                b"urn:example:switches",
+                b"switch",
+                pair.left,
+                pair.right,
+            ),
+        }
+    }
+
+    // Every pair gets the answer.
+    fn check_pairs(kind: Kind, pairs: &[Pair], answer: Comparison) -> Result<(), Fail> {
+        for pair in pairs {
+            check_eq(compare_pair(kind, pair), answer)?;
+        }
+        Ok(())
+    }
+
+    const DIFFERENT: Comparison = Comparison::Different {
+        left_allowed: true,
+        right_allowed: true,
+    };
+
+    const LEFT_NOT_ALLOWED: Comparison = Comparison::Different {
+        left_allowed: false,
+        right_allowed: true,
+    };
+
+    const SAME_TOKENS: [Pair; 6] = [
+        Pair {
+            left: b" a",
+            right: b"a",
+        },
+        Pair {
+            left: b"\ta\nb\rc d",
+            right: b"a b c d",
+        },
+        Pair {
+            left: b"a \t\n\r b",
+            right: b"a b",
+        },
+        Pair {
+            left: b"a\r\n",
+            right: b"\n\ta",
+        },
+        Pair {
+            left: b" \t\n\r",
+            right: b"",
+        },
+        Pair {
+            left: b" \x00 \xff ",
+            right: b"\x00 \xff",
+        },
+    ];
+
+    const DIFFERENT_TOKENS: [Pair; 5] = [
+        Pair {
+            left: b"a b",
+            right: b"ab",
+        },
+        Pair {
+            left: b"a\x0bb",
+            right: b"a b",
+        },
+        Pair {
+            left: b"a",
+            right: b"a b",
+        },
+        Pair {
+            left: b"a b",
+            right: b"a",
+        },
+        Pair {
+            left: b"a b",
+            right: b"a c",
+        },
+    ];
+
+    #[test]
+    fn strings_and_tokens() -> Result<(), Fail> {
+        check_pairs(Kind::Token, &SAME_TOKENS, Comparison::Same)?;
+        check_pairs(Kind::String, &SAME_TOKENS, DIFFERENT)?;
+        check_pairs(Kind::Token, &DIFFERENT_TOKENS, DIFFERENT)
     }
 
     const EQUAL_DECIMALS: [Pair; 9] = [
@@ -69,14 +173,6 @@ mod tests {
         },
     ];
 
-    #[test]
-    fn equal_decimals() -> Result<(), Fail> {
-        for pair in &EQUAL_DECIMALS {
-            check(Decimals.same(DECIMAL, pair.left, pair.right))?;
-        }
-        Ok(())
-    }
-
     const UNEQUAL_DECIMALS: [Pair; 4] = [
         Pair {
             left: b"1.5",
@@ -96,54 +192,86 @@ mod tests {
         },
     ];
 
-    #[test]
-    fn unequal_decimals() -> Result<(), Fail> {
-        for pair in &UNEQUAL_DECIMALS {
-            check(Decimals.allows(DECIMAL, pair.left) && Decimals.allows(DECIMAL, pair.right))?;
-            check(!Decimals.same(DECIMAL, pair.left, pair.right))?;
-        }
-        Ok(())
-    }
-
-    const NO_DECIMALS: [&[u8]; 17] = [
-        b".",
-        b"+",
-        b"",
-        b"1e3",
-        b"1 2",
-        b"--1",
-        b"1.2.3",
-        b"- 1",
-        b"\x001",
-        b"1\xff",
-        b"1\x0b",
-        b"1000000000000000000",
-        b"1234567890123456789",
-        b".1234567890123456789",
-        b"123456789.0123456789",
-        b"0000000000000000007",
-        b"0.000000000000000000",
+    const NO_DECIMALS: [Pair; 17] = [
+        Pair {
+            left: b".",
+            right: b"1",
+        },
+        Pair {
+            left: b"+",
+            right: b"1",
+        },
+        Pair {
+            left: b"",
+            right: b"1",
+        },
+        Pair {
+            left: b"1e3",
+            right: b"1000",
+        },
+        Pair {
+            left: b"1 2",
+            right: b"12",
+        },
+        Pair {
+            left: b"--1",
+            right: b"1",
+        },
+        Pair {
+            left: b"1.2.3",
+            right: b"1.23",
+        },
+        Pair {
+            left: b"- 1",
+            right: b"-1",
+        },
+        Pair {
+            left: b"\x001",
+            right: b"1",
+        },
+        Pair {
+            left: b"1\xff",
+            right: b"1",
+        },
+        Pair {
+            left: b"1\x0b",
+            right: b"1",
+        },
+        Pair {
+            left: b"1000000000000000000",
+            right: b"1",
+        },
+        Pair {
+            left: b"1234567890123456789",
+            right: b"1",
+        },
+        Pair {
+            left: b".1234567890123456789",
+            right: b"1",
+        },
+        Pair {
+            left: b"123456789.0123456789",
+            right: b"1",
+        },
+        Pair {
+            left: b"0000000000000000007",
+            right: b"7",
+        },
+        Pair {
+            left: b"0.000000000000000000",
+            right: b"0",
+        },
     ];
 
     #[test]
-    fn no_decimals() -> Result<(), Fail> {
-        for s in &NO_DECIMALS {
-            check(!Decimals.allows(DECIMAL, s))?;
-            check(!Decimals.same(DECIMAL, s, s))?;
-        }
-        Ok(())
+    fn decimals() -> Result<(), Fail> {
+        check_pairs(Kind::Decimal, &EQUAL_DECIMALS, Comparison::Same)?;
+        check_pairs(Kind::Decimal, &UNEQUAL_DECIMALS, DIFFERENT)?;
+        check_pairs(Kind::Decimal, &NO_DECIMALS, LEFT_NOT_ALLOWED)
     }
 
     #[test]
-    fn normal_forms() -> Result<(), Fail> {
-        check_eq(
-            Decimal::parse(b" 07.0 "),
-            Some(Decimal {
-                negative: false,
-                magnitude: 7,
-                fraction: 0,
-            }),
-        )?;
+    fn normal_form() -> Result<(), Fail> {
         check_eq(
             Decimal::parse(b"-001.250"),
             Some(Decimal {
@@ -151,150 +279,110 @@ mod tests {
                 magnitude: 125,
                 fraction: 2,
             }),
-        )?;
-        check_eq(
-            Decimal::parse(b"-0.00"),
-            Some(Decimal {
-                negative: false,
-                magnitude: 0,
-                fraction: 0,
-            }),
         )
     }
 
-    const SAME_TOKENS: [Pair; 6] = [
+    const SAME_SWITCHES: [Pair; 2] = [
         Pair {
-            left: b" a",
-            right: b"a",
+            left: b" Y",
+            right: b"1\n",
         },
         Pair {
-            left: b"\ta\nb\rc d",
-            right: b"a b c d",
-        },
-        Pair {
-            left: b"a \t\n\r b",
-            right: b"a b",
-        },
-        Pair {
-            left: b"a\r\n",
-            right: b"\n\ta",
-        },
-        Pair {
-            left: b" \t\n\r",
-            right: b"",
-        },
-        Pair {
-            left: b" \x00 \xff ",
-            right: b"\x00 \xff",
+            left: b"0",
+            right: b"N",
         },
     ];
 
-    const DIFFERENT_TOKENS: [Pair; 4] = [
+    const NO_SWITCHES: [Pair; 2] = [
         Pair {
-            left: b"a b",
-            right: b"ab",
+            left: b"yes",
+            right: b"Y",
         },
         Pair {
-            left: b"a\x0bb",
-            right: b"a b",
-        },
-        Pair {
-            left: b"a",
-            right: b"a b",
-        },
-        Pair {
-            left: b"a b",
-            right: b"a c",
+            left: b"",
+            right: b"0",
         },
     ];
 
     #[test]
-    fn tokens() -> Result<(), Fail> {
-        for pair in &SAME_TOKENS {
-            check(BuiltIn.same(TOKEN, pair.left, pair.right))?;
-            check(BuiltIn.same(TOKEN, pair.right, pair.left))?;
-            check(!BuiltIn.same(STRING, pair.left, pair.right))?;
-        }
-        for pair in &DIFFERENT_TOKENS {
-            check(!BuiltIn.same(TOKEN, pair.left, pair.right))?;
-            check(!BuiltIn.same(TOKEN, pair.right, pair.left))?;
-        }
-        Ok(())
+    fn another_library() -> Result<(), Fail> {
+        check_pairs(Kind::Switch, &SAME_SWITCHES, Comparison::Same)?;
+        check_pairs(Kind::Switch, &NO_SWITCHES, LEFT_NOT_ALLOWED)?;
+        check_eq(
+            compare(&Switches, b"", b"switch", b"Y", b"Y"),
+            Comparison::NoType,
+        )
     }
 
     #[test]
     fn long_strings(rt: LibcRuntime) -> Result<(), Fail> {
         let mut blanks = vec![in rt.alloc(); b' '; 1 << 20]?;
-        check(BuiltIn.same(TOKEN, blanks.as_slice(), b""))?;
         check(!Decimals.allows(DECIMAL, blanks.as_slice()))?;
         blanks.push(b'7')?;
         check(BuiltIn.same(TOKEN, blanks.as_slice(), b"7"))?;
-        check(!BuiltIn.same(STRING, blanks.as_slice(), b"7"))?;
         check(Decimals.same(DECIMAL, blanks.as_slice(), b"7"))?;
         let digits = vec![in rt.alloc(); b'1'; 1 << 20]?;
         check(!Decimals.allows(DECIMAL, digits.as_slice()))
     }
 
+    // No string is allowed and no two are same.
+    fn is_no_type<L: DatatypeLibrary>(library: &L, datatype: u32) -> bool {
+        !library.allows(datatype, b"1")
+            && !library.same(datatype, b"1", b"1")
+            && !library.allows_any(datatype)
+    }
+
     #[test]
     fn numbers_that_are_no_type() -> Result<(), Fail> {
         for datatype in [0, 3, u32::MAX] {
-            check(
-                !BuiltIn.allows(datatype, b"a")
-                    && !BuiltIn.same(datatype, b"a", b"a")
-                    && !BuiltIn.allows_any(datatype),
-            )?;
+            check(is_no_type(&BuiltIn, datatype))?;
+            check(is_no_type(&Decimals, datatype))?;
         }
-        for datatype in [0, 2, u32::MAX] {
-            check(
-                !Decimals.allows(datatype, b"1")
-                    && !Decimals.same(datatype, b"1", b"1")
-                    && !Decimals.allows_any(datatype),
-            )?;
-        }
+        check(is_no_type(&Decimals, 2))?;
         check(
             BuiltIn.allows_any(STRING) && BuiltIn.allows_any(TOKEN) && Decimals.allows_any(DECIMAL),
         )
     }
 
-    struct Named {
+    struct Name {
         uri: &'static [u8],
         name: &'static [u8],
         string: Option<u32>,
         decimal: Option<u32>,
     }
 
-    const NAMES: [Named; 6] = [
-        Named {
+    const NAMES: [Name; 6] = [
+        Name {
             uri: b"",
             name: b"string",
             string: Some(STRING),
             decimal: None,
         },
-        Named {
+        Name {
             uri: b"",
             name: b"token",
             string: Some(TOKEN),
             decimal: None,
         },
-        Named {
+        Name {
             uri: b"",
             name: b"decimal",
             string: None,
             decimal: None,
         },
-        Named {
+        Name {
             uri: XML_SCHEMA_DATATYPES,
             name: b"decimal",
             string: None,
             decimal: Some(DECIMAL),
         },
-        Named {
+        Name {
             uri: XML_SCHEMA_DATATYPES,
             name: b"string",
             string: None,
             decimal: None,
         },
-        Named {
+        Name {
             uri: XML_SCHEMA_DATATYPES,
             name: b"Decimal",
             string: None,
@@ -304,29 +392,10 @@ mod tests {
 
     #[test]
     fn names() -> Result<(), Fail> {
-        for named in &NAMES {
-            check_eq(BuiltIn.find(named.uri, named.name), named.string)?;
-            check_eq(Decimals.find(named.uri, named.name), named.decimal)?;
+        for n in &NAMES {
+            check_eq(BuiltIn.find(n.uri, n.name), n.string)?;
+            check_eq(Decimals.find(n.uri, n.name), n.decimal)?;
         }
         Ok(())
-    }
-
-    #[test]
-    fn another_library() -> Result<(), Fail> {
-        check_eq(
-            compare(&Switches, b"urn:example:switches", b"switch", b" Y", b"1\n"),
-            Comparison::Same,
-        )?;
-        check_eq(
-            compare(&Switches, b"urn:example:switches", b"switch", b"Y", b"yes"),
-            Comparison::Different {
-                left_allowed: true,
-                right_allowed: false,
-            },
-        )?;
-        check_eq(
-            compare(&Switches, b"", b"switch", b"Y", b"Y"),
-            Comparison::NoType,
-        )
     }
 }

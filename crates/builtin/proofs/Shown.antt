@@ -1,7 +1,7 @@
 -- Two iterators whose states show the lists that they still give, compared by `eq`.
 use mathlib.Core.Path.{_≡_, refl, sym, ap, _∙_}
 use mathlib.Core.Bool.{Bool, true, false}
-use mathlib.Core.List.{List, [], _∷_, _++_, append-cancel-left}
+use mathlib.Core.List.{[], _∷_, _++_, append-cancel-left}
 use native.Mathlib.Omega.{arith}
 use Prim.Native.Nat.{ℕ}
 use Rattle.std.specs.declared.option.Option.{Option}

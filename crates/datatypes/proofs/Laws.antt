@@ -3,13 +3,12 @@ use mathlib.Core.Path.{_≡_, refl, sym, _∙_}
 use mathlib.Core.Bool.{Bool, true, false, cond}
 use mathlib.Core.List.{List, [], _∷_}
 use Prim.Native.Nat.{ℕ, _-_}
-use native.Mathlib.Omega.{arith}
 use lib.Dec.{eqb}
 use Rattle.std.specs.shelf.Lists.{All}
 use Rattle.std.specs.declared.option.Option.the-variants.{Some}
 use Rattle.datatypes.specs.declared.comparison.Comparison.the-variants.{Same}
 use Rattle.datatypes.specs.Comparison.{answer, compared}
-use Rattle.datatypes.specs.Meaning.{Bytes, Datatype, LawfulType, Meaning, Lawful, noType, typeNumbered, allowed, same}
+use Rattle.datatypes.specs.Meaning.{Bytes, Datatype, LawfulType, Meaning, Lawful, noType, typeNumbered, same}
 
 noType-lawful : LawfulType noType
 noType-lawful = record { symmetric = λ a b h. h; transitive = λ a b c h k. h; reflexive = λ a. refl }

@@ -1,15 +1,15 @@
 -- Equality of value, by the natural numbers alone: it is an equivalence, and a number has one normal form.
 use mathlib.Core.Path.{_≡_, refl, sym, ap, subst, _∙_}
-use mathlib.Core.Bool.{Bool, true, false, cond, not, _||_}
-use mathlib.Core.Logic.{_⊎_, inl, inr, ⊎-elim}
-use Prim.Native.Nat.{ℕ, zero, suc, _+_, _-_, _*_, _/_, _%_, _^_, _<_, _≤_}
+use mathlib.Core.Bool.{Bool, true, false, cond}
+use mathlib.Core.Logic.{_⊎_, ⊎-elim}
+use Prim.Native.Nat.{ℕ, zero, suc, _+_, _-_, _*_, _/_, _%_, _^_, _<_}
 use native.Mathlib.Nat.{zero-mul, mul-comm, mul-assoc, mul-right-comm, mul-mod-left, mul-pos, one-le-pow, pow-suc, eq-of-mul-eq-mul-left, eq-of-mul-eq-mul-right}
 use native.Mathlib.Omega.{arith}
 use lib.Dec.{eqb}
 use lib.IntN.{ℤ, pos, negsuc, negℤ, _*ℤ_, pos-*ℤ-pos, negsuc-*ℤ-pos}
 use lib.Pow.{pow-add}
 use Rattle.std.specs.Orderings.{Decides}
-use Rattle.std.proofs.shelf.Tests.{cases-order, eqb-true, eq-eqb}
+use Rattle.std.proofs.shelf.Tests.{cases-order}
 use Rattle.std.proofs.shelf.Ways.{tells, decides-eqb, decides-like, same-from-decides}
 use Rattle.datatypes.specs.Numeral.{Number, numerator, denominator, sameInteger, equalValue}
 use Rattle.decimals.specs.NormalForm.{NoLastZero, PositiveZero}

@@ -1,6 +1,5 @@
 ghost use mathlib.Core.Path.{_≡_};
 ghost use mathlib.Core.Bool.{true};
-ghost use Rattle.std.specs.Options.{valueOr};
 ghost use Rattle.decimals.specs.Reads.{held, Reads};
 ghost use Rattle.decimals.specs.Digits.{Pushed, ReadsDigits, number};
 ghost use Rattle.datatypes.specs.Numeral.{decimalOf, equalValue, startsMinus, unsigned};

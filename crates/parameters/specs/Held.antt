@@ -9,7 +9,7 @@ use Rattle.parameters.specs.declared.finding.Outcome.{Outcome}
 use Rattle.parameters.specs.declared.finding.Outcome.the-variants.{NotCompared, Same, Different}
 use Rattle.parameters.specs.declared.reporting.Tally.{Tally}
 use Rattle.parameters.specs.declared.rows.ParameterRow.{ParameterRow}
-use Rattle.parameters.specs.Report.{tally, summaryText}
+use Rattle.parameters.specs.Report.{tallied, summaryText}
 use Rattle.parameters.specs.Rows.{Row}
 
 -- The row that a `ParameterRow` points to.
@@ -29,7 +29,7 @@ findingText f = f .before .now ++ (f .name .now ++ f .after .now)
 -- A `Tally` counts lines: how many they are, and how many there are of each outcome.
 abbrev pub Counts : Tally → List Bytes → Type 0
 Counts t ls =
-    (t .lines ≡ length ls) × (t .same ≡ tally 1 ls) × (t .different ≡ tally 2 ls) × (t .«not_compared» ≡ tally 0 ls)
+    (t .lines ≡ length ls) × (t .same ≡ tallied 1 ls) × (t .different ≡ tallied 2 ls) × (t .«not_compared» ≡ tallied 0 ls)
 
 -- The summary of a `Tally`.
 abbrev pub summaryOf : Tally → Bytes

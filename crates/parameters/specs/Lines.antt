@@ -21,12 +21,12 @@ cutAt c last [] = last
 cutAt c last (b ∷ s) = cond (eqb b c) ([] ∷ cutAt c last s) (prepend b (cutAt c last s))
 
 -- The lines of a file: each ends at a byte 0A, and the last may end with the file instead.
-abbrev pub lines : Bytes → List Bytes
-lines file = cutAt 0x0A [] file
+abbrev pub linesOf : Bytes → List Bytes
+linesOf file = cutAt 0x0A [] file
 
 -- The fields of a line: between two of them stands a tab, 09.
-abbrev pub fields : Bytes → List Bytes
-fields line = cutAt 0x09 ([] ∷ []) line
+abbrev pub fieldsOf : Bytes → List Bytes
+fieldsOf line = cutAt 0x09 ([] ∷ []) line
 
 -- No byte of s is c.
 abbrev pub Lacks : ℕ → Bytes → Type 0
@@ -40,4 +40,4 @@ CutOnce c s (Some p) = (s ≡ p .0 .now ++ c ∷ p .1 .now) × Lacks c (p .0 .no
 -- The first line is taken off a file that has one.
 abbrev pub FirstLine : Bytes → Option (RefT Bytes × RefT Bytes) → Type 0
 FirstLine file None = file ≡ []
-FirstLine file (Some p) = (lines file ≡ p .0 .now ∷ lines (p .1 .now)) × (length (p .1 .now) < length file)
+FirstLine file (Some p) = (linesOf file ≡ p .0 .now ∷ linesOf (p .1 .now)) × (length (p .1 .now) < length file)

@@ -8,10 +8,9 @@ use lib.ListN.{length}
 use Rattle.std.specs.declared.option.Option.{Option}
 use Rattle.std.specs.declared.option.Option.the-variants.{Some, None}
 use Rattle.std.specs.Written.{decimal}
-use Rattle.datatypes.specs.Comparison.{Answer}
 use Rattle.datatypes.specs.Meaning.{Bytes}
-use Rattle.parameters.specs.Lines.{lines, fields}
-use Rattle.parameters.specs.Rows.{Row, row, judged, outcome}
+use Rattle.parameters.specs.Lines.{linesOf, fieldsOf}
+use Rattle.parameters.specs.Rows.{Row, rowOf, judged, outcomeOf}
 
 abbrev pub side : Bool → Bytes
 side true = codes "allowed"
@@ -36,7 +35,7 @@ found (Some r) = rowText (r .name) (judged r .number) (judged r .sides)
 
 -- `line N: ` and what is found of the line.
 abbrev pub lineText : ℕ → Bytes → Bytes
-lineText n line = codes "line " ++ (decimal n ++ (codes ": " ++ (found (row (fields line)) ++ codes "\n")))
+lineText n line = codes "line " ++ (decimal n ++ (codes ": " ++ (found (rowOf (fieldsOf line)) ++ codes "\n")))
 
 -- The lines from line n on.
 abbrev pub linesText : ℕ → List Bytes → Bytes
@@ -44,9 +43,9 @@ linesText n [] = []
 linesText n (l ∷ ls) = lineText n l ++ linesText (n + 1) ls
 
 -- How many lines have an outcome.
-abbrev pub tally : ℕ → List Bytes → ℕ
-tally k [] = 0
-tally k (l ∷ ls) = cond (eqb (outcome l) k) (suc (tally k ls)) (tally k ls)
+abbrev pub tallied : ℕ → List Bytes → ℕ
+tallied k [] = 0
+tallied k (l ∷ ls) = cond (eqb (outcomeOf l) k) (suc (tallied k ls)) (tallied k ls)
 
 -- `N lines: S same, D different, U not compared`
 abbrev pub summaryText : ℕ → ℕ → ℕ → ℕ → Bytes
@@ -54,8 +53,8 @@ summaryText n s d u =
     decimal n ++ (codes " lines: " ++ (decimal s ++ (codes " same, " ++ (decimal d ++ (codes " different, " ++ (decimal u ++ codes " not compared\n"))))))
 
 abbrev pub summary : List Bytes → Bytes
-summary ls = summaryText (length ls) (tally 1 ls) (tally 2 ls) (tally 0 ls)
+summary ls = summaryText (length ls) (tallied 1 ls) (tallied 2 ls) (tallied 0 ls)
 
 -- The whole report: a line for each line of the file, and the summary.
 abbrev pub reported : Bytes → Bytes
-reported file = linesText 1 (lines file) ++ summary (lines file)
+reported file = linesText 1 (linesOf file) ++ summary (linesOf file)

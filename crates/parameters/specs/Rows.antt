@@ -10,7 +10,7 @@ use Rattle.datatypes.specs.Comparison.{Answer, compared}
 use Rattle.datatypes.specs.Decimals.{decimals}
 use Rattle.datatypes.specs.Names.{xmlSchemaDatatypes}
 use Rattle.datatypes.specs.Meaning.{Bytes}
-use Rattle.parameters.specs.Lines.{fields}
+use Rattle.parameters.specs.Lines.{fieldsOf}
 
 -- A row: the name of a type, and the values that two systems hold.
 pub record Row : Type 0 where
@@ -19,12 +19,12 @@ pub record Row : Type 0 where
   pub right : Bytes
 
 -- Three fields are a row; fewer or more are none.
-abbrev pub row : List Bytes → Option Row
-row [] = None
-row (n ∷ []) = None
-row (n ∷ l ∷ []) = None
-row (n ∷ l ∷ r ∷ []) = Some (record { name = n; left = l; right = r })
-row (n ∷ l ∷ r ∷ x ∷ xs) = None
+abbrev pub rowOf : List Bytes → Option Row
+rowOf [] = None
+rowOf (n ∷ []) = None
+rowOf (n ∷ l ∷ []) = None
+rowOf (n ∷ l ∷ r ∷ []) = Some (record { name = n; left = l; right = r })
+rowOf (n ∷ l ∷ r ∷ x ∷ xs) = None
 
 -- One answer, or another where the first says that there is no type.
 abbrev pub orElse : Answer → Answer → Answer
@@ -41,5 +41,5 @@ abbrev pub rowOutcome : Option Row → ℕ
 rowOutcome None = 0
 rowOutcome (Some r) = judged r .number
 
-abbrev pub outcome : Bytes → ℕ
-outcome line = rowOutcome (row (fields line))
+abbrev pub outcomeOf : Bytes → ℕ
+outcomeOf line = rowOutcome (rowOf (fieldsOf line))

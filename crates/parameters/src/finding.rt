@@ -1,8 +1,8 @@
 ghost use mathlib.Core.Path.{_≡_};
 ghost use Rattle.parameters.specs.Held.{outcomeNumber, findingText};
-ghost use Rattle.parameters.specs.Lines.{fields};
+ghost use Rattle.parameters.specs.Lines.{fieldsOf};
 ghost use Rattle.parameters.specs.Report.{found, verdict};
-ghost use Rattle.parameters.specs.Rows.{row, outcome};
+ghost use Rattle.parameters.specs.Rows.{rowOf, outcomeOf};
 use crate::rows::judge;
 use crate::rows::split_row;
 use datatypes::Comparison;
@@ -25,8 +25,8 @@ pub(crate) struct Finding<'a> {
 }
 
 pub(crate) fn examine(line: &[u8]) -> Finding<'_>
-    ensures text { λ r. ⌜ findingText r ≡ found (row (fields (now (line .entry)))) ⌝ }
-    ensures outcome { λ r. ⌜ outcomeNumber (r .outcome) ≡ outcome (now (line .entry)) ⌝ }
+    ensures text { λ r. ⌜ findingText r ≡ found (rowOf (fieldsOf (now (line .entry)))) ⌝ }
+    ensures outcome { λ r. ⌜ outcomeNumber (r .outcome) ≡ outcomeOf (now (line .entry)) ⌝ }
 {
     let Some(row) = split_row(line) else {
         return Finding {

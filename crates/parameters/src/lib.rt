@@ -1,3 +1,4 @@
+//! The report on a file of parameters: what two systems hold for each, compared by value.
 mod finding;
 mod reporting;
 mod rows;

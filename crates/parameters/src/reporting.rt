@@ -4,9 +4,9 @@ ghost use lib.Chars.{codes};
 ghost use Rattle.std.specs.Of.Vec.{vec-items};
 ghost use Rattle.std.specs.Vec.{made};
 ghost use Rattle.parameters.specs.Held.{outcomeNumber, findingText, Counts, summaryOf};
-ghost use Rattle.parameters.specs.Lines.{lines};
+ghost use Rattle.parameters.specs.Lines.{linesOf};
 ghost use Rattle.parameters.specs.Report.{lineText, linesText, reported};
-ghost use Rattle.parameters.specs.Rows.{outcome};
+ghost use Rattle.parameters.specs.Rows.{outcomeOf};
 use crate::finding::Finding;
 use crate::finding::Outcome;
 use crate::finding::examine;
@@ -35,7 +35,7 @@ pub fn report(heap: Global, file: &[u8]) -> Result<Vec<u8>, AllocError>
 
 // Writes what is found of each line.
 fn write_lines(heap: Global, text: &mut Vec<u8>, file: &[u8]) -> Result<Tally, AllocError>
-    ensures { λ r. ⌜ made r (λ t. (vec-items (now (text .exit)) ≡ vec-items (now (text .entry)) ++ linesText 1 (lines (now (file .entry)))) × Counts t (lines (now (file .entry)))) ⌝ }
+    ensures { λ r. ⌜ made r (λ t. (vec-items (now (text .exit)) ≡ vec-items (now (text .entry)) ++ linesText 1 (linesOf (now (file .entry)))) × Counts t (linesOf (now (file .entry)))) ⌝ }
 {
     let mut tally = Tally {
         lines: 0,
@@ -76,7 +76,7 @@ fn write_line(
     number: u64,
     line: &[u8],
 ) -> Result<Outcome, AllocError>
-    ensures { λ r. ⌜ made r (λ o. (vec-items (now (text .exit)) ≡ vec-items (now (text .entry)) ++ lineText number (now (line .entry))) × (outcomeNumber o ≡ outcome (now (line .entry)))) ⌝ }
+    ensures { λ r. ⌜ made r (λ o. (vec-items (now (text .exit)) ≡ vec-items (now (text .entry)) ++ lineText number (now (line .entry))) × (outcomeNumber o ≡ outcomeOf (now (line .entry)))) ⌝ }
 {
     let finding = examine(line);
     let start = format!(heap, "line {number}: ")?;

@@ -1,8 +1,8 @@
 ghost use mathlib.Core.Path.{_≡_};
 ghost use Rattle.std.specs.Options.{mapped};
 ghost use Rattle.parameters.specs.Held.{named};
-ghost use Rattle.parameters.specs.Lines.{fields};
-ghost use Rattle.parameters.specs.Rows.{row, judged};
+ghost use Rattle.parameters.specs.Lines.{fieldsOf};
+ghost use Rattle.parameters.specs.Rows.{rowOf, judged};
 ghost use Rattle.datatypes.specs.Comparison.{answer};
 use crate::split::split_once;
 use builtin::BuiltIn;
@@ -23,7 +23,7 @@ pub(crate) struct ParameterRow<'a> {
 
 // The row that a line writes, if it has exactly three fields.
 pub(crate) fn split_row(line: &[u8]) -> Option<ParameterRow<'_>>
-    ensures { λ r. ⌜ mapped named r ≡ row (fields (now (line .entry))) ⌝ }
+    ensures { λ r. ⌜ mapped named r ≡ rowOf (fieldsOf (now (line .entry))) ⌝ }
 {
     let (name, rest) = split_once(line, b'\t')?;
     let (left, right) = split_once(rest, b'\t')?;

@@ -7,7 +7,7 @@ use lib.Dec.{eqb}
 use Rattle.std.specs.declared.option.Option.{Option}
 use Rattle.std.specs.declared.option.Option.the-variants.{Some, None}
 use Rattle.datatypes.specs.Blanks.{trim}
-use Rattle.datatypes.specs.Meaning.{Bytes, Datatype, Meaning}
+use Rattle.datatypes.specs.Meaning.{Bytes, Meaning}
 use Rattle.datatypes.specs.Names.{onlyType}
 use Rattle.datatypes.specs.Values.{valueType}
 

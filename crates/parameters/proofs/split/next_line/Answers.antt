@@ -1,8 +1,7 @@
 use mathlib.Core.Path.{sym}
 use borrow.Author.Needs.{needs}
-use native.Mathlib.Omega.{arith}
 use Rattle.std.proofs.shelf.Lists.{nil-from-length}
-use Rattle.std.proofs.shelf.Tests.{eqb-true, eqb-false}
+use Rattle.std.proofs.shelf.Tests.{eqb-true}
 use Rattle.parameters.proofs.Cuts.{lines-first, lines-last}
 use Rattle.parameters.proofs.split.next_line.Needs as need
 

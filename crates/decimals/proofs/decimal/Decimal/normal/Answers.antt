@@ -1,6 +1,5 @@
 use Prim.Native.Nat.{_^_}
 use native.Mathlib.Omega.{arith}
-use borrow.Author.Needs.{needs}
 use Rattle.std.specs.Options.{valueOr}
 use Rattle.std.proofs.shelf.Ways.{tells}
 use Rattle.decimals.proofs.Numerals.{room}

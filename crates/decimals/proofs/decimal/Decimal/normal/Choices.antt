@@ -1,5 +1,5 @@
 use mathlib.Core.Path.{_≡_}
-use Prim.Native.Nat.{_*_, _^_, _<_, _≤_}
+use Prim.Native.Nat.{_*_, _^_, _≤_}
 use Rattle.decimals.proofs.decimal.Decimal.normal.Given as given
 
 abbrev pub Inv-loop-fraction : given.InvT-loop-fraction

@@ -1,8 +1,6 @@
-use native.Mathlib.Omega.{arith}
 use borrow.Author.Needs.{needs}
 use Rattle.decimals.proofs.Numerals.{room, one-more}
 use Rattle.decimals.proofs.digits.Digits.push.Needs as need
-use Rattle.decimals.proofs.digits.Digits.push.Needs.{in-Some, in-None}
 
 pub mul-result : need.mul-result
 mul-result c = let h = room (c .args .self .magnitude) (c .args .self .count) 17 (c .args .self .small) (search needs) in search needs

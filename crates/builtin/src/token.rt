@@ -1,17 +1,17 @@
 ghost use mathlib.Core.Path.{_≡_};
 ghost use denote.Ref.{now};
-ghost use lib.ListN.{length};
 ghost use Rattle.std.specs.shelf.Text.{sameBytes};
-ghost use Rattle.datatypes.specs.BuiltIn.{collapse, startsBlank};
-ghost use Rattle.builtin.specs.Collapsed.{ahead, Takes, TakesFirst};
+ghost use Rattle.datatypes.specs.BuiltIn.{collapse};
+ghost use Rattle.builtin.specs.Collapsed.{ahead, bytesLeft, Takes, FirstSolid};
 use datatypes::is_blank;
-use datatypes::trim_blanks;
 
 /// The bytes of a string as a token has them: without the blanks at both ends, and with one byte 20 for each run of blanks
-/// inside. They are found on one way through the string, and nothing is copied.
+/// inside. Each byte of the string is read once, and nothing is copied.
 #[derive(Drop)]
 pub(crate) struct Collapsed<'a> {
-    // What is left of the string, of which no end is blank at the start.
+    // A byte that has been read and comes next.
+    held: Option<u8>,
+    // The bytes that have not been read.
     rest: &'a [u8],
 }
 
@@ -19,8 +19,15 @@ impl<'a> Collapsed<'a> {
     pub(crate) fn new(s: &'a [u8]) -> Self
         ensures { λ r. ⌜ ahead r ≡ collapse (now (s .entry)) ⌝ }
     {
-        Collapsed {
-            rest: trim_blanks(s),
+        match first_solid(s) {
+            Some((b, rest)) => Collapsed {
+                held: Some(b),
+                rest,
+            },
+            None => Collapsed {
+                held: None,
+                rest: &[],
+            },
         }
     }
 }
@@ -32,40 +39,35 @@ impl Iterator for Collapsed<'_> as CollapsedIterator {
 
     ghost ends = { λ _. Unit {0} };
 
-    ghost left = { λ c. length (now (c .rest)) };
+    ghost left = { bytesLeft };
 
     fn next(&mut self) -> Option<u8> {
-        let (b, rest) = squeeze_first(self.rest)?;
+        if let Some(b) = self.held.take() {
+            return Some(b);
+        }
+        let (b, rest) = first_solid(self.rest)?;
+        let after_blanks = rest.len() + 1 < self.rest.len();
         self.rest = rest;
+        if after_blanks {
+            self.held = Some(b);
+            return Some(b' ');
+        }
         Some(b)
     }
 }
 
-// The first byte of a string in which each run of blanks is one byte 20, and what is left of the string then.
-fn squeeze_first(s: &[u8]) -> Option<(u8, &[u8])>
-    ensures { λ r. ⌜ TakesFirst (now (s .entry)) r ⌝ }
+// The first byte of a string that is no blank, and what stands after it.
+fn first_solid(s: &[u8]) -> Option<(u8, &[u8])>
+    ensures { λ r. ⌜ FirstSolid (now (s .entry)) r ⌝ }
 {
     let mut rest = s;
     while let [b, tail @ ..] = rest {
         if !is_blank(*b) {
             return Some((*b, tail));
         }
-        if !starts_blank(tail) {
-            return Some((b' ', tail));
-        }
         rest = tail;
     }
     None
-}
-
-// Does a blank stand at the front?
-fn starts_blank(s: &[u8]) -> bool
-    ensures { λ r. ⌜ r ≡ startsBlank (now (s .entry)) ⌝ }
-{
-    match s {
-        [b, ..] => is_blank(*b),
-        [] => false,
-    }
 }
 
 /// Are two strings same as tokens?

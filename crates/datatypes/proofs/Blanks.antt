@@ -3,20 +3,21 @@ use mathlib.Core.Path.{_≡_, refl, sym, ap, _∙_}
 use mathlib.Core.Bool.{Bool, true, false, cond}
 use mathlib.Core.List.{[], _∷_, _++_, reverse, reverse-append, reverse-reverse}
 use Prim.Native.Nat.{ℕ, _-_, _<_}
-use native.Mathlib.Omega.{arith}
 use lib.ListN.{length, getD}
 use Rattle.datatypes.specs.Blanks.{isBlank, dropBlanks, dropEndBlanks}
 use Rattle.datatypes.specs.Meaning.{Bytes}
-use Rattle.datatypes.proofs.Slices.{tail, uncons, init, unsnoc}
+use Rattle.datatypes.proofs.Slices.{no-bytes, tail, uncons, init, unsnoc}
 
 -- ---- the front
 
 pub dropBlanks-blank : (s : Bytes) → 0 < length s → isBlank (getD s 0 0) ≡ true → dropBlanks (tail s) ≡ dropBlanks s
 dropBlanks-blank s some e = sym (ap dropBlanks (uncons s some) ∙ rw e)
 
-pub dropBlanks-none : (s : Bytes) → length s < 1 → dropBlanks s ≡ s
-dropBlanks-none [] h = refl
-dropBlanks-none (b ∷ s) h = absurd (omega arith)
+pub dropBlanks-solid : (s : Bytes) → 0 < length s → isBlank (getD s 0 0) ≡ false → dropBlanks s ≡ getD s 0 0 ∷ tail s
+dropBlanks-solid s some e = ap dropBlanks (uncons s some) ∙ rw e
+
+pub dropBlanks-none : (s : Bytes) → length s < 1 → dropBlanks s ≡ []
+dropBlanks-none s h = ap dropBlanks (no-bytes s h)
 
 -- ---- the end
 
@@ -37,6 +38,5 @@ module _ (s : Bytes) (some : 0 < length s) where
   pub dropEndBlanks-solid : isBlank (getD s (length s - 1) 0) ≡ false → dropEndBlanks s ≡ s
   dropEndBlanks-solid e = last-byte ∙ rw e (sym (unsnoc s some))
 
-pub dropEndBlanks-none : (s : Bytes) → length s < 1 → dropEndBlanks s ≡ s
-dropEndBlanks-none [] h = refl
-dropEndBlanks-none (b ∷ s) h = absurd (omega arith)
+pub dropEndBlanks-none : (s : Bytes) → length s < 1 → dropEndBlanks s ≡ []
+dropEndBlanks-none s h = ap dropEndBlanks (no-bytes s h)

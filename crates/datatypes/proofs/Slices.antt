@@ -1,5 +1,5 @@
 -- Slices of bytes, as patterns take them apart and as `==` compares them.
-use mathlib.Core.Path.{_≡_, sym, ap, _∙_}
+use mathlib.Core.Path.{_≡_, refl, sym, ap, _∙_}
 use mathlib.Core.Bool.{Bool}
 use mathlib.Core.List.{[], _∷_, _++_}
 use Prim.Native.Nat.{ℕ, _+_, _-_, _<_}
@@ -12,6 +12,10 @@ use Rattle.std.proofs.shelf.Equals.{matches-decides, sameBytes-decides}
 use Rattle.std.proofs.shelf.Lists.{take-rest, take-all, take-more}
 use Rattle.std.proofs.shelf.Ways.{same-from-decides}
 use Rattle.datatypes.specs.Meaning.{Bytes}
+
+pub no-bytes : (s : Bytes) → length s < 1 → s ≡ []
+no-bytes [] h = refl
+no-bytes (b ∷ s) h = absurd (omega arith)
 
 -- all but the first byte, as the pattern `[b, tail @ ..]` has it
 abbrev pub tail : Bytes → Bytes

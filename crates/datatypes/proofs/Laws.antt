@@ -11,7 +11,12 @@ use Rattle.datatypes.specs.Comparison.{answer, compared}
 use Rattle.datatypes.specs.Meaning.{Bytes, Datatype, LawfulType, Meaning, Lawful, noType, typeNumbered, same}
 
 noType-lawful : LawfulType noType
-noType-lawful = record { symmetric = λ a b h. h; transitive = λ a b c h k. h; reflexive = λ a. refl }
+noType-lawful = record {
+  symmetric = λ a b h. h;
+  transitive = λ a b c h k. h;
+  reflexive = λ a. refl;
+  inBytes = λ a h. ([], tt, h);
+}
 
 either-lawful : {d e : Datatype} (b : Bool) → LawfulType d → LawfulType e → LawfulType (cond b d e)
 either-lawful true h k = h

@@ -6,7 +6,7 @@ use Rattle.std.specs.declared.option.Option.the-variants.{Some, None}
 use Rattle.std.specs.Options.{isSome}
 use Rattle.std.specs.shelf.Text.{sameBytes}
 use Rattle.std.proofs.shelf.Equals.{sameBytes-decides}
-use Rattle.datatypes.specs.Meaning.{Bytes, LawfulType}
+use Rattle.datatypes.specs.Meaning.{Bytes, AreBytes, LawfulType}
 use Rattle.datatypes.specs.Values.{bothEqual, valueType}
 
 pub record Equivalence {V : Type 0} (equal : V → V → Bool) : Type 0 where
@@ -30,11 +30,13 @@ module _ {V : Type 0} (equal : V → V → Bool) (e : Equivalence equal) where
   both-reflexive None = refl
   both-reflexive (Some x) = e .reflexive x
 
-  pub valueType-lawful : (read : Bytes → Option V) → LawfulType (valueType read equal)
-  valueType-lawful read = record {
+  -- s is a string that the type allows
+  pub valueType-lawful : (read : Bytes → Option V) (s : Bytes) → AreBytes s → isSome (read s) ≡ true → LawfulType (valueType read equal)
+  valueType-lawful read s bytes some = record {
     symmetric = λ a b h. both-symmetric (read a) (read b) h;
     transitive = λ a b c h k. both-transitive (read a) (read b) (read c) h k;
     reflexive = λ a. both-reflexive (read a);
+    inBytes = λ a h. (s, bytes, some);
   }
 
 pub sameBytes-equivalence : Equivalence sameBytes

@@ -2,16 +2,19 @@
 use mathlib.Core.Path.{_≡_}
 use mathlib.Core.List.{List, [], _∷_}
 use mathlib.Core.Bool.{Bool, true, false, cond}
-use Prim.Native.Nat.{ℕ, _-_, _≤_}
+use Prim.Native.Nat.{ℕ, _-_, _<_, _≤_}
 use lib.Dec.{eqb}
 use lib.ListN.{length}
 use Rattle.std.specs.declared.option.Option.{Option}
 use Rattle.std.specs.declared.option.Option.the-variants.{Some}
 use Rattle.std.specs.shelf.Lists.{All}
 
--- A string is a list of bytes.
+-- A string is a list of bytes. As a rule the definitions take any numbers for them; the code has none but those below 256.
 abbrev pub Bytes : Type 0
 Bytes = List ℕ
+
+abbrev pub AreBytes : Bytes → Type 0
+AreBytes s = All (λ b. b < 256) s
 
 -- A type is a set of allowed strings and a relation "same" on strings.
 pub record Datatype : Type 0 where
@@ -42,13 +45,14 @@ same m t a b = typeNumbered (m .types) t .same a b
 
 -- Type t allows some string.
 abbrev pub SomeAllowed : Meaning → ℕ → Type 0
-SomeAllowed m t = (s : Bytes) × (allowed m t s ≡ true)
+SomeAllowed m t = (s : Bytes) × AreBytes s × (allowed m t s ≡ true)
 
--- The laws of a type: same is symmetric and transitive, and a string is same as itself exactly if it is allowed.
+-- The laws of a type: same is symmetric and transitive, a string is same as itself exactly if it is allowed, and a type that allows any list of numbers allows one of bytes.
 pub record LawfulType (d : Datatype) : Type 0 where
   pub symmetric : (a b : Bytes) → d .same a b ≡ true → d .same b a ≡ true
   pub transitive : (a b c : Bytes) → d .same a b ≡ true → d .same b c ≡ true → d .same a c ≡ true
   pub reflexive : (a : Bytes) → d .same a a ≡ d .allows a
+  pub inBytes : (a : Bytes) → d .allows a ≡ true → (s : Bytes) × AreBytes s × (d .allows s ≡ true)
 
 -- The laws of a library: each of its types keeps the laws of a type, and what a URI and a name stand for is one of its types.
 pub record Lawful (m : Meaning) : Type 0 where

@@ -5,7 +5,7 @@ use Prim.Native.Nat.{ℕ}
 use lib.Dec.{eqb}
 use Rattle.datatypes.specs.Meaning.{Bytes}
 
--- The blank bytes are hexadecimal 20, 09, 0A and 0D.
+-- A blank is a space, a tab, a line feed or a carriage return.
 abbrev pub isBlank : ℕ → Bool
 isBlank b = eqb b 0x20 || eqb b 0x09 || eqb b 0x0A || eqb b 0x0D
 

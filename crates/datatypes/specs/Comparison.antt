@@ -23,6 +23,6 @@ abbrev pub told : Meaning → Option ℕ → Bytes → Bytes → Answer
 told m None l r = record { number = 0; sides = None }
 told m (Some t) l r = record { number = cond (same m t l r) 1 2; sides = Some (allowed m t l, allowed m t r) }
 
--- What a library says of two strings under its type for a URI and a name.
+-- What a library says of two strings under the type that a URI and a name stand for.
 abbrev pub compared : Meaning → Bytes → Bytes → Bytes → Bytes → Answer
 compared m u n l r = told m (m .typeOf u n) l r

@@ -16,7 +16,7 @@ Bytes = List ℕ
 abbrev pub AreBytes : Bytes → Type 0
 AreBytes s = All (λ b. b < 256) s
 
--- A type is a set of allowed strings and a relation "same" on strings.
+-- A type says which strings it allows, and which two strings it calls same.
 pub record Datatype : Type 0 where
   pub allows : Bytes → Bool
   pub same : Bytes → Bytes → Bool
@@ -47,7 +47,7 @@ same m t a b = typeNumbered (m .types) t .same a b
 abbrev pub SomeAllowed : Meaning → ℕ → Type 0
 SomeAllowed m t = (s : Bytes) × AreBytes s × (allowed m t s ≡ true)
 
--- The laws of a type: same is symmetric and transitive, a string is same as itself exactly if it is allowed, and a type that allows any list of numbers allows one of bytes.
+-- The laws of a type: same is an equivalence on the strings that it allows, and holds of no others; and a type that allows any list of numbers allows one of bytes.
 pub record LawfulType (d : Datatype) : Type 0 where
   pub symmetric : (a b : Bytes) → d .same a b ≡ true → d .same b a ≡ true
   pub transitive : (a b c : Bytes) → d .same a b ≡ true → d .same b c ≡ true → d .same a c ≡ true

@@ -31,7 +31,7 @@ abbrev pub count : (ℕ → Bool) → Bytes → ℕ
 count p [] = 0
 count p (b ∷ s) = cond (p b) (suc (count p s)) (count p s)
 
--- 1 to 18 digits, zeros counted, with at most one point anywhere among, before or after them.
+-- Nothing but digits and points: at least one digit and at most 18, whether zeros or not, and at most one point, wherever it stands.
 abbrev pub isNumeral : Bytes → Bool
 isNumeral s = every (λ b. isDigit b || isPoint b) s && leb 1 (count isDigit s) && leb (count isDigit s) 18 && leb (count isPoint s) 1
 

@@ -8,7 +8,8 @@ use crate::bytes::same_bytes;
 /// URI and name stand for. An implementation gives the meaning, shows that it keeps the laws, and shows that its answers
 /// are the meaning's. Code over any library knows these, and nothing else of it.
 ///
-/// The questions refuse nothing and change nothing. A number that is no type gets `false` from the last three.
+/// Each question is answered whatever it is asked, and leaves the library as it was. By a number that is no type nothing is
+/// allowed and nothing is same.
 pub trait DatatypeLibrary {
     ghost meaning: { Self → Meaning };
 

@@ -11,8 +11,8 @@ use datatypes::trim_blanks;
 const MOST_DIGITS: u8 = 18;
 
 impl Decimal {
-    /// Reads a decimal: blanks at both ends are dropped, a sign may follow, and then 1 to 18 digits, leading and last zeros
-    /// counted, with at most one point anywhere among, before or after them.
+    /// Reads a decimal: blanks at both ends are passed over; a sign may stand first; then come digits, at least one and at
+    /// most 18, leading and last zeros among them, and a point may stand before, between or after them.
     pub fn parse(s: &[u8]) -> Option<Decimal>
         ensures { λ r. ⌜ Reads (decimalOf (now (s .entry))) r ⌝ }
     {

@@ -56,7 +56,8 @@ impl Iterator for Collapsed<'_> as CollapsedIterator {
     }
 }
 
-// The first byte of a string that is no blank, and what stands after it.
+// The first byte of a string that is no blank, and what stands after it. The loop is here, and not a call that skips blanks,
+// since the byte at which that stops would be read again.
 fn first_solid(s: &[u8]) -> Option<(u8, &[u8])>
     ensures { λ r. ⌜ FirstSolid (now (s .entry)) r ⌝ }
 {

@@ -13,6 +13,7 @@ use Rattle.std.specs.shelf.Lists.{All}
 abbrev pub Bytes : Type 0
 Bytes = List ℕ
 
+-- Each number of a list is a byte.
 abbrev pub AreBytes : Bytes → Type 0
 AreBytes s = All (λ b. b < 256) s
 

@@ -1,4 +1,6 @@
 //! The built-in datatype library: strings and tokens.
+#![tactic(auto)]
+
 ghost use Rattle.datatypes.specs.BuiltIn.{built_in, collapse};
 ghost use Rattle.std.specs.Prelude.{[], Some, refl};
 ghost use Rattle.std.proofs.Common.{arith};

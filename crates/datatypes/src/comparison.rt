@@ -25,7 +25,7 @@ pub fn compare<L: DatatypeLibrary>(
     left: &[u8],
     right: &[u8],
 ) -> Comparison
-    ensures { answer result ≡ compared (meaning library.now) uri.now name.now left.now right.now }
+    ensures { answer result ≡ compared (L.meaning library.now) uri.now name.now left.now right.now }
 {
     let Some(datatype) = library.find(uri, name) else {
         return Comparison::NoType;

@@ -1,5 +1,7 @@
 //! Examples of the datatype libraries, run as tests. They stand in a crate of their own, since a crate is proved once more
 //! for its tests.
+#![tactic(auto)]
+
 #[cfg(test)]
 mod tests {
     use builtin::BuiltIn;

@@ -1,4 +1,6 @@
 //! The datatype library of decimals.
+#![tactic(auto)]
+
 ghost use Rattle.std.specs.Prelude.{◌≡◌, codes, refl};
 ghost use Rattle.datatypes.specs.Decimals.{decimals, decimal_type};
 ghost use Rattle.std.proofs.Common.{arith};

@@ -1,4 +1,6 @@
 //! The report on a file of parameters: what two systems hold for each, compared by value.
+#![tactic(auto)]
+
 mod finding;
 mod reporting;
 mod rows;

@@ -1,5 +1,7 @@
 //! Compares the values that two systems hold for the parameters of one drive. Reads the file that its first argument names,
 //! or standard input, and prints what is found of each line, and a summary.
+#![tactic(auto)]
+
 use anyhow::anyhow;
 use std::io::{Read, Write};
 use std::{env, fs};

@@ -1,5 +1,7 @@
 //! An example of a datatype library as a customer would write one: the type `switch`, whose strings `Y` and `1` stand for on,
 //! and `N` and `0` for off.
+#![tactic(auto)]
+
 ghost use Rattle.std.specs.Prelude.{◌≡◌, codes, refl};
 ghost use Rattle.switches.specs.Switch.{switch_of, switches, equal_switches};
 ghost use Rattle.std.proofs.Common.{arith};

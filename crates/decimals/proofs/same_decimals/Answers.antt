@@ -3,11 +3,11 @@ use Rattle.datatypes.specs.Numeral.{decimal_of}
 use Rattle.decimals.specs.DecimalType.{reads_none, reads_none_right, reads_same}
 use Rattle.decimals.proofs.same_decimals.Goals as goal
 
-pub returns-in-default : goal.returns-in-default
-returns-in-default c = sym (reads_none (decimal_of c.args.a.now) (decimal_of c.args.b.now) c.in-default.ensures)
+pub returns-in_default : goal.returns-in_default
+returns-in_default c = sym (reads_none (decimal_of c.args.a.now) (decimal_of c.args.b.now) c.in-default.ensures)
 
-pub returns-in-default-parse : goal.returns-in-default-parse
-returns-in-default-parse c = sym (reads_none_right (decimal_of c.args.a.now) (decimal_of c.args.b.now) c.in-default-parse.ensures)
+pub returns-in_default-parse : goal.returns-in_default-parse
+returns-in_default-parse c = sym (reads_none_right (decimal_of c.args.a.now) (decimal_of c.args.b.now) c.in-default-parse.ensures)
 
 pub returns : goal.returns
 returns c =

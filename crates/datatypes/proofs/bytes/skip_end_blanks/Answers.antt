@@ -5,13 +5,13 @@ use Rattle.datatypes.proofs.bytes.skip_end_blanks.Goals as goal
 
 pub loop-rest-preserved : goal.loop-rest-preserved
 loop-rest-preserved c =
-    drop_end_blanks_blank c.loop-rest.rest.now (search rules) (sym c.if-not-is-blank.ensures) ∙ c.loop-rest.invariant
+    drop_end_blanks_blank c.loop-rest.rest.now (search rules) (sym c.if-not-is_blank.ensures) ∙ c.loop-rest.invariant
 
-pub returns-in-default : goal.returns-in-default
-returns-in-default c =
+pub returns-in_default : goal.returns-in_default
+returns-in_default c =
     let s = c.loop-rest.rest.now in
     no_bytes s (search rules) ∙ sym (drop_end_blanks_none s (search rules)) ∙ c.loop-rest.invariant
 
-pub returns-then-not-is-blank : goal.returns-then-not-is-blank
-returns-then-not-is-blank c =
-    sym (drop_end_blanks_solid c.loop-rest.rest.now (search rules) (sym c.if-not-is-blank.ensures)) ∙ c.loop-rest.invariant
+pub returns-then-not-is_blank : goal.returns-then-not-is_blank
+returns-then-not-is_blank c =
+    sym (drop_end_blanks_solid c.loop-rest.rest.now (search rules) (sym c.if-not-is_blank.ensures)) ∙ c.loop-rest.invariant

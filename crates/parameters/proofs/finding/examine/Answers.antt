@@ -3,5 +3,5 @@ use Rattle.parameters.specs.Report.{found}
 use Rattle.parameters.specs.Rows.{row_outcome}
 use Rattle.parameters.proofs.finding.examine.Goals as goal
 
-pub returns-in-default : goal.returns-in-default
-returns-in-default c = let none = c.in-default.ensures in record { text = ap found none; outcome = ap row_outcome none }
+pub returns-in_default : goal.returns-in_default
+returns-in_default c = let none = c.in-default.ensures in record { text = ap found none; outcome = ap row_outcome none }

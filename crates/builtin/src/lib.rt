@@ -1,11 +1,8 @@
 //! The built-in datatype library: strings and tokens.
 #![tactic(auto)]
 
-ghost use Rattle.datatypes.specs.BuiltIn.{built_in, collapse};
-ghost use Rattle.std.specs.Prelude.{[], Some, refl};
-ghost use Rattle.std.proofs.Common.{arith};
-ghost use Rattle.std.specs.Str.{bytes_eq};
-ghost use Rattle.datatypes.proofs.ValueTypes.{value_type-LawfulType, bytes_eq-Equivalence};
+ghost use Rattle.builtin.specs.Laws.{built_in-Lawful};
+ghost use Rattle.datatypes.specs.BuiltIn.{built_in};
 
 mod token;
 
@@ -24,11 +21,7 @@ pub struct BuiltIn;
 impl DatatypeLibrary for BuiltIn {
     ghost meaning = { λ _. built_in };
 
-    ghost lawful = { λ x.
-        record {
-          each = (value_type-LawfulType bytes_eq bytes_eq-Equivalence (λ s. Some s) [] tt refl, (value_type-LawfulType bytes_eq bytes_eq-Equivalence (λ s. Some (collapse s)) [] tt refl, tt));
-          known = λ uri name t e. Prim.grind arith;
-        } };
+    ghost lawful = { λ _. built_in-Lawful };
 
     fn find(&self, uri: &[u8], name: &[u8]) -> Option<u32> {
         if same_name(b"", b"string", uri, name) {

@@ -1,2 +1,2 @@
+pub mod Laws
 pub mod Switch
-pub mod Equality

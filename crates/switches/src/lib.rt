@@ -2,11 +2,9 @@
 //! and `N` and `0` for off.
 #![tactic(auto)]
 
-ghost use Rattle.std.specs.Prelude.{◌≡◌, codes, refl};
-ghost use Rattle.switches.specs.Switch.{switch_of, switches, equal_switches};
-ghost use Rattle.std.proofs.Common.{arith};
-ghost use Rattle.datatypes.proofs.ValueTypes.{value_type-LawfulType};
-ghost use Rattle.switches.specs.Equality.{equal_switches-Equivalence};
+ghost use Rattle.std.specs.Prelude.{◌≡◌};
+ghost use Rattle.switches.specs.Laws.{switches-Lawful};
+ghost use Rattle.switches.specs.Switch.{switch_of, switches};
 
 use datatypes::{DatatypeLibrary, find_only_type, trim_blanks};
 
@@ -30,11 +28,7 @@ fn parse_switch(s: &[u8]) -> Option<bool>
 impl DatatypeLibrary for Switches {
     ghost meaning = { λ _. switches };
 
-    ghost lawful = { λ x.
-        record {
-          each = (value_type-LawfulType equal_switches equal_switches-Equivalence switch_of (codes "0") (omega arith, tt) refl, tt);
-          known = λ uri name t e. Prim.grind arith;
-        } };
+    ghost lawful = { λ _. switches-Lawful };
 
     fn find(&self, uri: &[u8], name: &[u8]) -> Option<u32> {
         find_only_type(b"urn:example:switches", b"switch", uri, name)

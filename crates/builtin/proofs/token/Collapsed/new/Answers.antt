@@ -1,5 +1,5 @@
 use Rattle.std.proofs.Common.{sym}
-use Rattle.builtin.proofs.Tokens.{collapse_first, collapse_none}
+use Rattle.builtin.proofs.Tokens.{collapse_first}
 use Rattle.builtin.proofs.token.Collapsed.new.Goals as goal
 
 pub returns-in-Some : goal.returns-in-Some

@@ -1,36 +1,33 @@
 use Rattle.std.proofs.Common.{◌≡◌, ◌∷◌, None, sym, ap, ◌∙◌, arith, rules}
+use Rattle.std.proofs.iter.Next.{firm}
 use Rattle.builtin.proofs.Tokens.{unheld, unheld-length, shorter, coming_none, coming_gap, coming_next}
 use Rattle.builtin.proofs.token.CollapsedIterator.next.Goals as goal
-use Rattle.std.proofs.iter.Next.{firm}
 
-pub returns-in-err-b : goal.returns-in-err-b
-returns-in-err-b c =
+pub returns-in_err-b-clause-steps : goal.returns-in_err-b-clause-steps
+returns-in_err-b-clause-steps c =
     let s = c.args.self.now.rest.now in
-    let was : c.args.self.now.held ≡ None = sym c.take.ensures.value ∙ c.in-default.is in
-    simp c.from-residual.ensures
-    record {
-      steps = unheld s was ∙ coming_none s c.in-err-b.ensures;
-      goes = firm (tt) (λ h. search rules);
-    }
+    let was : c.args.self.now.held ≡ None = sym c.take.ensures.value ∙ c.in_default.is in
+    simp c.from_residual.ensures (unheld s was ∙ coming_none s c.in_err-b.ensures)
 
-pub returns-then-after-blanks : goal.returns-then-after-blanks
-returns-then-after-blanks c =
+pub returns-then-after_blanks-clause-steps : goal.returns-then-after_blanks-clause-steps
+returns-then-after_blanks-clause-steps c =
     let s = c.args.self.now.rest.now in
-    let was : c.args.self.now.held ≡ None = sym c.take.ensures.value ∙ c.in-default.is in
-    record {
-      steps = unheld s was ∙ coming_gap s c.in-ok-b.b c.in-ok-b.rest.now c.in-ok-b.ensures c.if-after-blanks.true;
-      goes = firm ((tt, tt, omega (arith, unheld-length s was))) (λ h. search rules);
-    }
+    let was : c.args.self.now.held ≡ None = sym c.take.ensures.value ∙ c.in_default.is in
+    unheld s was ∙ coming_gap s c.in_ok-b.b c.in_ok-b.rest.now c.in_ok-b.ensures c.if-after_blanks.true
 
-pub returns : goal.returns
-returns c =
+pub returns-clause-steps : goal.returns-clause-steps
+returns-clause-steps c =
     let s = c.args.self.now.rest.now in
-    let b = c.in-ok-b.b in
-    let r = c.in-ok-b.rest.now in
-    let first = c.in-ok-b.ensures in
-    let was : c.args.self.now.held ≡ None = sym c.take.ensures.value ∙ c.in-default.is in
+    let b = c.in_ok-b.b in
+    let r = c.in_ok-b.rest.now in
+    let was : c.args.self.now.held ≡ None = sym c.take.ensures.value ∙ c.in_default.is in
     let now : c.take.new.self ≡ None = c.take.ensures.after in
-    record {
-      steps = unheld s was ∙ coming_next s b r first c.if-after-blanks.false ∙ ap (λ t. b ∷ t) (sym (unheld r now));
-      goes = firm ((tt, tt, omega (arith, shorter s b r first, unheld-length s was, unheld-length r now))) (λ h. search rules);
-    }
+    unheld s was ∙ coming_next s b r c.in_ok-b.ensures c.if-after_blanks.false ∙ ap (λ t. b ∷ t) (sym (unheld r now))
+
+pub returns-clause-goes : goal.returns-clause-goes
+returns-clause-goes c =
+    let s = c.args.self.now.rest.now in
+    let r = c.in_ok-b.rest.now in
+    let was : c.args.self.now.held ≡ None = sym c.take.ensures.value ∙ c.in_default.is in
+    let now : c.take.new.self ≡ None = c.take.ensures.after in
+    firm (tt, tt, omega (arith, shorter s c.in_ok-b.b r c.in_ok-b.ensures, unheld-length s was, unheld-length r now)) (λ h. search rules)

@@ -1,1 +1,3 @@
+pub mod DecimalType
+pub mod Numbers
 pub mod Numerals

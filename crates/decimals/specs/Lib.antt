@@ -1,5 +1,4 @@
 pub mod Digits
+pub mod Laws
 pub mod NormalForm
 pub mod Reads
-pub mod DecimalType
-pub mod Numbers

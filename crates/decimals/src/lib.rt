@@ -1,12 +1,9 @@
 //! The datatype library of decimals.
 #![tactic(auto)]
 
-ghost use Rattle.std.specs.Prelude.{◌≡◌, codes, refl};
+ghost use Rattle.std.specs.Prelude.{◌≡◌};
 ghost use Rattle.datatypes.specs.Decimals.{decimals, decimal_type};
-ghost use Rattle.std.proofs.Common.{arith};
-ghost use Rattle.datatypes.specs.Numeral.{decimal_of, equal_value};
-ghost use Rattle.decimals.specs.DecimalType.{equal_value-Equivalence};
-ghost use Rattle.datatypes.proofs.ValueTypes.{value_type-LawfulType};
+ghost use Rattle.decimals.specs.Laws.{decimals-Lawful};
 
 mod decimal;
 mod digits;
@@ -24,11 +21,7 @@ pub struct Decimals;
 impl DatatypeLibrary for Decimals {
     ghost meaning = { λ _. decimals };
 
-    ghost lawful = { λ x.
-        record {
-          each = (value_type-LawfulType equal_value equal_value-Equivalence decimal_of (codes "0") (omega arith, tt) refl, tt);
-          known = λ uri name t e. Prim.grind arith;
-        } };
+    ghost lawful = { λ _. decimals-Lawful };
 
     fn find(&self, uri: &[u8], name: &[u8]) -> Option<u32> {
         find_only_type(XML_SCHEMA_DATATYPES, b"decimal", uri, name)

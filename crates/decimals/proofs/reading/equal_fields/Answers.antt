@@ -2,7 +2,8 @@ use Rattle.std.proofs.Common.{ap, arith}
 use Rattle.std.proofs.lemmas.Bool.Decides.{same_from_decides}
 use Rattle.decimals.specs.Reads.{held}
 use Rattle.datatypes.specs.Numeral.{equal_value}
-use Rattle.decimals.specs.Numbers.{equal_value-Decides, one_form}
+use Rattle.decimals.specs.Laws.{equal_value-Decides}
+use Rattle.decimals.proofs.Numbers.{one_form}
 use Rattle.decimals.proofs.reading.equal_fields.Goals as goal
 
 -- Numbers in normal form are equal in value exactly if their fields are equal.

@@ -1,12 +1,13 @@
--- Equality of value, by the natural numbers alone: it is an equivalence, and a number has one normal form.
-use Rattle.std.specs.Prelude.{◌≡◌, ℕ, zero, suc, ◌+◌, ◌-◌, ◌*◌, ◌/◌, ◌%◌, ◌^◌, ◌<◌, Bool, true, false, cond, ◌⊎◌, ℤ, pos, negsuc, ◌*ℤ◌, neg_ℤ, Decides, ◌==◌, refl}
-use Rattle.std.proofs.Common.{sym, ap, subst, ◌∙◌, ⊎_elim, zero-mul, mul_comm, mul_assoc, mul_right_comm, mul-pos, pow-suc, arith, pow-add}
-use Rattle.std.proofs.Math.Nat.{mul-mod_left, one-le-pow, eq_of_mul-eq-mul_left, eq_of_mul-eq-mul_right}
+-- The library of decimals keeps the laws, since equality of value is an equivalence: that is shown by the natural numbers alone.
+use Rattle.std.specs.Prelude.{◌≡◌, ℕ, zero, suc, ◌*◌, ◌^◌, ◌<◌, Bool, true, false, cond, ℤ, pos, negsuc, ◌*ℤ◌, neg_ℤ, codes, Decides, ◌==◌, refl}
+use Rattle.std.proofs.Common.{sym, ap, subst, ◌∙◌, zero-mul, mul_right_comm, mul-pos, arith}
+use Rattle.std.proofs.Math.Nat.{one-le-pow, eq_of_mul-eq-mul_right}
 use Rattle.std.proofs.Math.IntN.{pos-*ℤ-pos, negsuc-*ℤ-pos}
-use Rattle.std.proofs.lemmas.Bool.{cases_order}
-use Rattle.std.proofs.lemmas.Bool.Decides.{nat_tests, Decides-eqb, Decides-like, same_from_decides}
-use Rattle.datatypes.specs.Numeral.{Number, numerator, denominator, same_integer, equal_value}
-use Rattle.decimals.specs.NormalForm.{NoLastZero, PositiveZero}
+use Rattle.std.proofs.lemmas.Bool.Decides.{Decides-eqb, Decides-like}
+use Rattle.datatypes.specs.Decimals.{decimals}
+use Rattle.datatypes.specs.Meaning.{Lawful}
+use Rattle.datatypes.specs.Numeral.{Number, numerator, denominator, same_integer, equal_value, decimal_of}
+use Rattle.datatypes.proofs.ValueTypes.{Equivalence, value_type-LawfulType}
 
 pub ten_pos : (k : ℕ) → 0 < 10 ^ k
 ten_pos k = one-le-pow k 10 (omega arith)
@@ -69,9 +70,6 @@ equal_value-Decides x y =
     (λ h. left ∙ signed_from x.negative y.negative _ _ (h.0, λ some. h.1 (pos_left _ _ some)) ∙ sym right)
     (same_integer-Decides (numerator x *ℤ denominator y) (numerator y *ℤ denominator x))
 
-pub equal_by_parts : (s t : Bool) (m n f g h : ℕ) → m * 10 ^ h ≡ n * 10 ^ f → h ≡ g → (0 < m → s ≡ t) → equal_value (record { negative = s; digits = m; scale = f }) (record { negative = t; digits = n; scale = g }) ≡ true
-equal_by_parts s t m n f g h e k signs = (equal_value-Decides _ _).1 (ap (λ i. m * 10 ^ i) (sym k) ∙ e, signs)
-
 Level_reflexive : (x : Number) → Level x x
 Level_reflexive x = (refl, λ _. refl)
 
@@ -100,44 +98,13 @@ equal_value_symmetric x y h = (equal_value-Decides y x).1 (Level_symmetric x y (
 pub equal_value_transitive : (x y z : Number) → equal_value x y ≡ true → equal_value y z ≡ true → equal_value x z ≡ true
 equal_value_transitive x y z h k = (equal_value-Decides x z).1 (Level_transitive x y z ((equal_value-Decides x y).0 h) ((equal_value-Decides y z).0 k))
 
--- numbers may be replaced by such as are equal to them
-pub equal_value_same : (x y v w : Number) → equal_value x v ≡ true → equal_value y w ≡ true → equal_value x y ≡ equal_value v w
-equal_value_same x y v w h k =
-    same_from_decides (equal_value x y) (equal_value v w)
-    (λ e. equal_value_transitive v x w (equal_value_symmetric x v h) (equal_value_transitive x y w e k), λ e. equal_value_transitive x v y h (equal_value_transitive v w y e (equal_value_symmetric y w k)))
-    (λ e. e, λ e. e)
+pub equal_value-Equivalence : Equivalence equal_value
+equal_value-Equivalence = record { reflexive = equal_value_reflexive; symmetric = equal_value_symmetric; transitive = equal_value_transitive }
 
--- ---- one normal form
+-- ---- the laws
 
--- the longer of two equal fractions ends in zero
-longer : (m n f k : ℕ) → m * 10 ^ (f + suc k) ≡ n * 10 ^ f → n % 10 ≡ 0
-longer m n f k e =
-    let p : 10 ^ (f + suc k) ≡ 10 ^ k * 10 * 10 ^ f = pow-add 10 f (suc k) ∙ mul_comm (10 ^ f) (10 ^ suc k) ∙ ap (λ x. x * 10 ^ f) (pow-suc 10 k) in
-    let q : m * 10 ^ k * 10 ≡ n = eq_of_mul-eq-mul_right (10 ^ f) (ten_pos f) (m * 10 ^ k * 10) n (ap (λ x. x * 10 ^ f) (mul_assoc m (10 ^ k) 10) ∙ mul_assoc m (10 ^ k * 10) (10 ^ f) ∙ ap (λ x. m * x) (sym p) ∙ e) in
-    sym (ap (λ x. x % 10) q) ∙ mul-mod_left (m * 10 ^ k) 10
-
-not_longer : (m f n g : ℕ) → NoLastZero n g → m * 10 ^ g ≡ n * 10 ^ f → f < g → ⊥
-not_longer m f n g h e lt =
-    let split : f + suc (g - f - 1) ≡ g = omega arith in
-    let z = longer m n f (g - f - 1) (ap (λ x. m * 10 ^ x) split ∙ e) in
-    grind (arith, nat_tests)
-
-same_sign : (m n : ℕ) (s t : Bool) → PositiveZero m s → PositiveZero n t → m ≡ n → (0 < m → s ≡ t) → s ≡ t
-same_sign m n s t a b e h = grind (arith, nat_tests)
-
-pub one_form : (x y : Number) → NoLastZero x.digits x.scale → NoLastZero y.digits y.scale → PositiveZero x.digits x.negative → PositiveZero y.digits y.negative → Level x y → x ≡ y
-one_form x y a b c d h =
-    let scales : x.scale ≡ y.scale = ⊎_elim (λ q. q) (⊎_elim (λ lt. absurd (not_longer x.digits x.scale y.digits y.scale b h.0 lt)) (λ gt. absurd (not_longer y.digits y.scale x.digits x.scale a (sym h.0) gt))) (cases_order x.scale y.scale) in
-    let digits : x.digits ≡ y.digits = eq_of_mul-eq-mul_right (10 ^ y.scale) (ten_pos y.scale) x.digits y.digits (h.0 ∙ ap (λ k. y.digits * 10 ^ k) scales) in
-    let signs = same_sign x.digits y.digits x.negative y.negative c d digits h.1 in
-    λ i. record { negative = signs i; digits = digits i; scale = scales i }
-
--- ---- a last zero goes
-
-pub cut_zero : (m n p f : ℕ) → m % 10 ≡ 0 → 0 < f → m * p ≡ n * 10 ^ f → m / 10 * p ≡ n * 10 ^ (f - 1)
-cut_zero m n p f zeros some e =
-    let whole : 10 * (m / 10) ≡ m = omega arith in
-    let back : suc (f - 1) ≡ f = omega arith in
-    let left : 10 * (m / 10 * p) ≡ m * p = sym (mul_assoc 10 (m / 10) p) ∙ ap (λ x. x * p) whole in
-    let right : n * 10 ^ f ≡ 10 * (n * 10 ^ (f - 1)) = ap (λ k. n * 10 ^ k) (sym back) ∙ ap (λ x. n * x) (pow-suc 10 (f - 1)) ∙ sym (mul_assoc n (10 ^ (f - 1)) 10) ∙ mul_comm (n * 10 ^ (f - 1)) 10 in
-    eq_of_mul-eq-mul_left 10 (omega arith) (m / 10 * p) (n * 10 ^ (f - 1)) (left ∙ e ∙ right)
+pub decimals-Lawful : Lawful decimals
+decimals-Lawful = record {
+  each = (value_type-LawfulType equal_value equal_value-Equivalence decimal_of (codes "0") (omega arith, tt) refl, tt);
+  known = λ uri name t e. grind arith;
+}

@@ -1,14 +1,10 @@
 -- What is read of a string stands for the number that it writes.
-use Rattle.std.specs.Prelude.{◌≡◌, false, Some, None, Option, refl}
+use Rattle.std.proofs.Common.{◌≡◌, false, Some, None, Option, refl}
 use Rattle.decimals.specs.declared.decimal.Decimal.{Decimal}
 use Rattle.decimals.specs.Reads.{held, Reads}
 use Rattle.datatypes.specs.Numeral.{Number, equal_value}
 use Rattle.datatypes.specs.Values.{both_equal}
-use Rattle.decimals.specs.Numbers.{equal_value_reflexive, equal_value_symmetric, equal_value_transitive, equal_value_same}
-use Rattle.datatypes.proofs.ValueTypes.{Equivalence}
-
-pub equal_value-Equivalence : Equivalence equal_value
-equal_value-Equivalence = record { reflexive = equal_value_reflexive; symmetric = equal_value_symmetric; transitive = equal_value_transitive }
+use Rattle.decimals.proofs.Numbers.{equal_value_same}
 
 -- where one of two strings is no decimal they are not same
 pub reads_none : (o p : Option Number) → Reads o None → both_equal equal_value o p ≡ false

@@ -1,7 +1,7 @@
 -- A string read byte by byte as a token.
 use Rattle.std.proofs.Common.{◌≡◌, ℕ, ◌+◌, ◌<◌, ◌≤◌, Bool, true, false, cond, [], ◌∷◌, ◌++◌, reverse, length, None, Option, refl, ap, ◌∙◌, append_assoc, zero-add, arith, length-append}
 use mathlib.Core.List.{reverse-cons, reverse-append, reverse-reverse}
-use Rattle.std.specs.List.{AllByRecursion as All}
+use Rattle.std.specs.List.{AllByRecursion}
 use Rattle.std.specs.Str.{bytes_eq}
 use Rattle.datatypes.specs.Blanks.{is_blank, drop_blanks, drop_end_blanks}
 use Rattle.datatypes.specs.BuiltIn.{squeeze, collapse, built_in}
@@ -36,7 +36,7 @@ collapse_none s none = ap coming none
 
 record Split (s : Bytes) (b : ℕ) (r : Bytes) : Type 0 where
   pub blanks : Bytes
-  pub each : All (λ c. is_blank c ≡ true) blanks
+  pub each : AllByRecursion (λ c. is_blank c ≡ true) blanks
   pub solid : is_blank b ≡ false
   pub whole : s ≡ blanks ++ b ∷ r
 
@@ -66,7 +66,7 @@ module _ (b : ℕ) (solid : is_blank b ≡ false) where
   drop_end_blanks_after s t =
       ap (λ r. reverse (drop_blanks r)) (reverse_around s t b) ∙ ap reverse (drop_blanks_to (reverse t) (reverse s)) ∙ reverse_around (drop_blanks (reverse t)) (reverse s) b ∙ ap (λ r. r ++ b ∷ drop_end_blanks t) (reverse-reverse s)
 
-  squeeze_gap : (c : ℕ) (s t : Bytes) → is_blank c ≡ true → All (λ c. is_blank c ≡ true) s → squeeze (c ∷ (s ++ b ∷ t)) ≡ 0x20 ∷ b ∷ squeeze t
+  squeeze_gap : (c : ℕ) (s t : Bytes) → is_blank c ≡ true → AllByRecursion (λ c. is_blank c ≡ true) s → squeeze (c ∷ (s ++ b ∷ t)) ≡ 0x20 ∷ b ∷ squeeze t
   squeeze_gap c [] t h each = rw (h, solid)
   squeeze_gap c (d ∷ s) t h each = squeeze_more c d (s ++ b ∷ t) h each.0 ∙ squeeze_gap d s t each.0 each.1
     where
@@ -76,7 +76,7 @@ module _ (b : ℕ) (solid : is_blank b ≡ false) where
   coming_solid : (t : Bytes) → coming (b ∷ t) ≡ b ∷ coming t
   coming_solid t = ap squeeze (drop_end_blanks_after [] t) ∙ rw solid
 
-  coming_blanks : (s t : Bytes) → 0 < length s → All (λ c. is_blank c ≡ true) s → coming (s ++ b ∷ t) ≡ 0x20 ∷ b ∷ coming t
+  coming_blanks : (s t : Bytes) → 0 < length s → AllByRecursion (λ c. is_blank c ≡ true) s → coming (s ++ b ∷ t) ≡ 0x20 ∷ b ∷ coming t
   coming_blanks [] t some each = absurd (omega arith)
   coming_blanks (c ∷ s) t some each = ap squeeze (drop_end_blanks_after (c ∷ s) t) ∙ squeeze_gap c s (drop_end_blanks t) each.0 each.1
 

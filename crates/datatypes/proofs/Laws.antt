@@ -1,6 +1,6 @@
 -- What follows from the laws of a library.
 use Rattle.std.proofs.Common.{◌≡◌, ℕ, ◌-◌, Bool, true, false, cond, eqb, List, [], ◌∷◌, Some, sym, refl, ◌∙◌}
-use Rattle.std.specs.List.{AllByRecursion as All}
+use Rattle.std.specs.List.{AllByRecursion}
 use Rattle.datatypes.specs.declared.comparison.Comparison.TheVariants.{Same}
 use Rattle.datatypes.specs.Comparison.{answer, compared}
 use Rattle.datatypes.specs.Meaning.{Bytes, Datatype, LawfulType, Meaning, Lawful, no_type, type_numbered, same}
@@ -17,7 +17,7 @@ either_lawful : {d e : Datatype} (b : Bool) → LawfulType d → LawfulType e �
 either_lawful true h k = h
 either_lawful false h k = k
 
-type_numbered-LawfulType : (ds : List Datatype) → All LawfulType ds → (t : ℕ) → LawfulType (type_numbered ds t)
+type_numbered-LawfulType : (ds : List Datatype) → AllByRecursion LawfulType ds → (t : ℕ) → LawfulType (type_numbered ds t)
 type_numbered-LawfulType [] h t = no_type-LawfulType
 type_numbered-LawfulType (d ∷ ds) h t = either_lawful (eqb t 1) h.0 (type_numbered-LawfulType ds h.1 (t - 1))
 

@@ -1,6 +1,6 @@
 -- What a datatype library means: the types that it has, and the laws that they keep.
 use Rattle.std.specs.Prelude.{◌≡◌, ℕ, ◌-◌, ◌<◌, ◌≤◌, Bool, true, false, cond, List, [], ◌∷◌, length, Some, Option, ◌==◌}
-use Rattle.std.specs.List.{AllByRecursion as All}
+use Rattle.std.specs.List.{AllByRecursion}
 
 -- A string is a list of bytes. As a rule the definitions take any numbers for them; the code has none but those below 256.
 abbrev pub Bytes : Type 0
@@ -8,7 +8,7 @@ Bytes = List ℕ
 
 -- Each number of a list is a byte.
 abbrev pub AreBytes : Bytes → Type 0
-AreBytes s = All (λ b. b < 256) s
+AreBytes s = AllByRecursion (λ b. b < 256) s
 
 -- A type says which strings it allows, and which two strings it calls same.
 pub record Datatype : Type 0 where
@@ -50,5 +50,5 @@ pub record LawfulType (d : Datatype) : Type 0 where
 
 -- The laws of a library: each of its types keeps the laws of a type, and what a URI and a name stand for is one of its types.
 pub record Lawful (m : Meaning) : Type 0 where
-  pub each : All LawfulType m.types
+  pub each : AllByRecursion LawfulType m.types
   pub known : (uri name : Bytes) (t : ℕ) → m.type_of uri name ≡ Some t → (1 ≤ t) × (t ≤ length m.types)

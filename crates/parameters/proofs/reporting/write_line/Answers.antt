@@ -6,11 +6,11 @@ use Rattle.parameters.proofs.reporting.write_line.Goals as goal
 
 pub returns : goal.returns
 returns c = (
-  line_joined (vec_items c.args.text.now) c.as-bytes.result.now (vec_items c.extend-from-slice.new.self) (finding_text c.examine-finding.result) c.args.line.now (vec_items c.write-finding.new.text) (string_bytes c.in-ok-start.start) c.args.number
-      c.as-bytes.ensures.value
-      c.in-ok-start.ensures.ok
+  line_joined (vec_items c.args.text.now) c.as_bytes.result.now (vec_items c.extend_from_slice.new.self) (finding_text c.examine-finding.result) c.args.line.now (vec_items c.write_finding.new.text) (string_bytes c.in_ok-start.start) c.args.number
+      c.as_bytes.ensures.value
+      c.in_ok-start.ensures.ok
       c.examine-finding.ensures.text
-      (pushed c.as-bytes.result.now refl c.in-ok-extend-from-slice.was c.extend-from-slice.ensures.items)
-      c.in-ok-write-finding.ensures,
+      (pushed c.as_bytes.result.now refl c.in_ok-extend_from_slice.was c.extend_from_slice.ensures.items)
+      c.in_ok-write_finding.ensures,
   c.examine-finding.ensures.outcome,
 )

@@ -4,14 +4,16 @@
 
 use anyhow::anyhow;
 use std::io::{Read, Write};
+use std::process::ExitCode;
 use std::{env, fs};
 
-fn main(rt: HostRuntime) -> anyhow::Result<()> {
+fn main(rt: HostRuntime) -> ExitCode {
     match run(&rt) {
-        Ok(()) => Ok(()),
+        Ok(()) => ExitCode::SUCCESS,
         Err(e) => {
-            eprintln!(rt; "params: {e}")?;
-            Err(e)
+            // Where standard error cannot be written either, the status alone tells.
+            let _ = eprintln!(rt; "params: {e}");
+            ExitCode::FAILURE
         }
     }
 }

@@ -1,10 +1,9 @@
 -- Slices of bytes, as patterns take them apart and as `==` compares them.
-use Rattle.std.proofs.Common.{◌≡◌, ◌+◌, ◌-◌, ◌<◌, Bool, eqb, [], ◌∷◌, ◌++◌, length, get_or, take, drop, sym, refl, ap, ◌∙◌, arith}
-use Rattle.std.specs.Cmp.Lexicographic.{pointwise}
+use Rattle.std.proofs.Common.{◌≡◌, ◌+◌, ◌-◌, ◌<◌, Bool, [], ◌∷◌, ◌++◌, length, get_or, take, drop, Decides, sym, refl, ap, ◌∙◌, arith}
 use Rattle.std.specs.Str.{bytes_eq}
-use Rattle.std.proofs.lemmas.Slice.Eq.{slice_eq-Decides, bytes_eq-Decides}
+use Rattle.std.proofs.lemmas.Slice.Eq.{bytes_eq-Decides}
 use Rattle.std.proofs.lemmas.List.{take_rest, take_all, take_more}
-use Rattle.std.proofs.lemmas.Bool.Decides.{same_from_decides, Decides-eqb}
+use Rattle.std.proofs.lemmas.Bool.Decides.{same_from_decides}
 use Rattle.datatypes.specs.Meaning.{Bytes}
 
 pub no_bytes : (s : Bytes) → length s < 1 → s ≡ []
@@ -26,5 +25,5 @@ init s = take (length s - 1) s
 pub unsnoc : (s : Bytes) → 0 < length s → s ≡ init s ++ get_or s (length s - 1) 0 ∷ []
 unsnoc s some = sym (take_all (length s - 1 + 1) s (omega arith)) ∙ take_more s (length s - 1) 0 (omega arith)
 
-pub same_slices : (a b : Bytes) (r : Bool) → r ≡ pointwise eqb a b → r ≡ bytes_eq a b
-same_slices a b r h = same_from_decides r (bytes_eq a b) (slice_eq-Decides Decides-eqb a b r h) (bytes_eq-Decides a b)
+pub same_slices : (a b : Bytes) (r : Bool) → Decides r (a ≡ b) → r ≡ bytes_eq a b
+same_slices a b r h = same_from_decides r (bytes_eq a b) h (bytes_eq-Decides a b)

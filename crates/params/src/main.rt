@@ -2,10 +2,38 @@
 //! or standard input, and prints what is found of each line, and a summary.
 #![tactic(auto)]
 
-use anyhow::anyhow;
+use std::alloc::AllocError;
 use std::io::{Read, Write};
 use std::process::ExitCode;
-use std::{env, fs};
+use std::{env, fmt, fs, io};
+
+// Why there is no report: the error, and the file that was named, where it is that file that could not be read.
+#[derive(Drop)]
+struct Failure {
+    error: io::Error,
+    path: Option<String>,
+}
+
+impl From<io::Error> for Failure {
+    fn from(error: io::Error) -> Failure {
+        Failure { error, path: None }
+    }
+}
+
+impl From<AllocError> for Failure {
+    fn from(error: AllocError) -> Failure {
+        Failure::from(io::Error::from(error))
+    }
+}
+
+impl fmt::Display for Failure {
+    fn fmt<W: fmt::Write>(&self, f: &mut fmt::Formatter<W>) -> fmt::Result {
+        match &self.path {
+            Some(path) => write!(f, "{}: {path}", self.error),
+            None => write!(f, "{}", self.error),
+        }
+    }
+}
 
 fn main(rt: HostRuntime) -> ExitCode {
     match run(&rt) {
@@ -18,7 +46,7 @@ fn main(rt: HostRuntime) -> ExitCode {
     }
 }
 
-fn run(rt: &HostRuntime) -> anyhow::Result<()> {
+fn run(rt: &HostRuntime) -> Result<(), Failure> {
     let file = read_file(rt)?;
     let text = parameters::report(rt.alloc(), file.as_slice())?;
     rt.stdout().write_all(text.as_slice())?;
@@ -26,11 +54,14 @@ fn run(rt: &HostRuntime) -> anyhow::Result<()> {
 }
 
 // The file that is named, or else standard input, as bytes.
-fn read_file(rt: &HostRuntime) -> anyhow::Result<Vec<u8>> {
+fn read_file(rt: &HostRuntime) -> Result<Vec<u8>, Failure> {
     if let Some(path) = env::args(rt)?.nth(1) {
         return match fs::read(rt, path.as_str()) {
             Ok(file) => Ok(file),
-            Err(e) => Err(anyhow!(format!(in rt.alloc(); "{e}: {path}")?)),
+            Err(error) => Err(Failure {
+                error,
+                path: Some(path),
+            }),
         };
     }
     let mut file = Vec::new(rt.alloc());

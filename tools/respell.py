@@ -5,8 +5,9 @@ usage: python3 tools/respell.py [FOLDER]    once, at the top of the repository (
 
 Names of definitions, fields, variables and lemmas are in snake case; a dash joins two names, and a plain word is joined by an
 underscore; a fact keeps the capital of its type. Names of functions in src/, of types and of modules, strings, inputs
-and outputs stay as they are. It rewrites whole names only, in crates/*/specs, crates/*/proofs, in the clauses and ghost lines of
-crates/*/src, and in README.md and docs/, and stops before it writes anything where two names would fall together.
+and outputs stay as they are. It rewrites whole names only, in the .antt and .rt files of crates/ (in .rt files these names stand
+in clauses and ghost lines alone) and in README.md and docs/, and stops before it writes anything where two names would fall
+together.
 """
 
 import os

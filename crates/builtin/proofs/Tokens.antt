@@ -1,11 +1,10 @@
 -- A string read byte by byte as a token.
-use Rattle.std.proofs.Common.{◌≡◌, ℕ, ◌+◌, ◌<◌, ◌≤◌, Bool, true, false, cond, [], ◌∷◌, ◌++◌, reverse, length, None, Option, refl, ap, ◌∙◌, append_assoc, zero-add, arith, length-append}
+use Rattle.std.proofs.Common.{◌≡◌, ℕ, ◌+◌, ◌<◌, ◌≤◌, Bool, true, false, cond, [], ◌∷◌, ◌++◌, reverse, length, None, Option, refl, ap, ◌∙◌, append_assoc, arith, length-append}
 use mathlib.Core.List.{reverse-cons, reverse-append, reverse-reverse}
 use Rattle.std.specs.List.{AllByRecursion}
-use Rattle.std.specs.Str.{bytes_eq}
 use Rattle.datatypes.specs.Blanks.{is_blank, drop_blanks, drop_end_blanks}
-use Rattle.datatypes.specs.BuiltIn.{squeeze, collapse, built_in}
-use Rattle.datatypes.specs.Meaning.{Bytes, same}
+use Rattle.datatypes.specs.BuiltIn.{squeeze, collapse}
+use Rattle.datatypes.specs.Meaning.{Bytes}
 use Rattle.builtin.specs.Collapsed.{coming, held_bytes}
 
 -- ---- blanks alone
@@ -81,9 +80,6 @@ module _ (b : ℕ) (solid : is_blank b ≡ false) where
   coming_blanks (c ∷ s) t some each = ap squeeze (drop_end_blanks_after (c ∷ s) t) ∙ squeeze_gap c s (drop_end_blanks t) each.0 each.1
 
 module _ (s : Bytes) (b : ℕ) (r : Bytes) (e : drop_blanks s ≡ b ∷ r) where
-  pub shorter : length r < length s
-  shorter = let q = split s b r e in omega (arith, ap length q.whole ∙ length-append q.blanks (b ∷ r))
-
   pub collapse_first : collapse s ≡ b ∷ coming r
   collapse_first = ap coming e ∙ coming_solid b (split s b r e).solid r
 
@@ -105,12 +101,3 @@ module _ (s : Bytes) (b : ℕ) (r : Bytes) (e : drop_blanks s ≡ b ∷ r) where
 module _ {h : Option ℕ} (s : Bytes) (none : h ≡ None) where
   pub unheld : held_bytes h ++ coming s ≡ coming s
   unheld = ap (λ o. held_bytes o ++ coming s) none
-
-  pub unheld-length : length (held_bytes h) + length s ≡ length s
-  unheld-length = ap (λ o. length (held_bytes o) + length s) none ∙ zero-add (length s)
-
--- ---- the types
-
--- type 1 of the library is `string`
-pub same_strings : (t : ℕ) (a b : Bytes) → t ≡ 1 → bytes_eq a b ≡ same built_in t a b
-same_strings t a b e = rw e

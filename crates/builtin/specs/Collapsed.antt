@@ -1,5 +1,5 @@
 -- The bytes of a token, one at a time: what the functions that find them promise one another.
-use Rattle.std.specs.Prelude.{◌≡◌, ℕ, ◌+◌, [], ◌∷◌, ◌++◌, length, Some, None, Option}
+use Rattle.std.specs.Prelude.{◌≡◌, ℕ, [], ◌∷◌, ◌++◌, Some, None, Option}
 use Rattle.std.specs.Borrow.{Bor}
 use Rattle.datatypes.specs.Blanks.{drop_blanks, drop_end_blanks}
 use Rattle.datatypes.specs.BuiltIn.{squeeze}
@@ -18,15 +18,6 @@ held_bytes (Some b) = b ∷ []
 -- The bytes to come.
 abbrev pub ahead : Collapsed → Bytes
 ahead c = held_bytes c.held ++ coming c.rest.now
-
--- More than the bytes to come can be: it falls with each of them.
-abbrev pub bytes_left : Collapsed → ℕ
-bytes_left c = length (held_bytes c.held) + length c.rest.now
-
--- One byte is taken off the front, if there is one.
-abbrev pub Takes : Bytes → Option ℕ → Bytes → Type 0
-Takes s None t = s ≡ []
-Takes s (Some b) t = s ≡ b ∷ t
 
 -- The first byte that is no blank, and what stands after it.
 abbrev pub FirstSolid : Bytes → Option (ℕ × Bor Bytes) → Type 0

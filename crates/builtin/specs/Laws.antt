@@ -3,8 +3,8 @@ use Rattle.std.specs.Prelude.{[], Some, refl}
 use Rattle.std.specs.Str.{bytes_eq}
 use Rattle.std.proofs.Common.{arith}
 use Rattle.datatypes.specs.BuiltIn.{collapse, built_in}
+use Rattle.datatypes.specs.Laws.{value_type-LawfulType, bytes_eq-Equivalence}
 use Rattle.datatypes.specs.Meaning.{Lawful}
-use Rattle.datatypes.proofs.ValueTypes.{value_type-LawfulType, bytes_eq-Equivalence}
 
 pub built_in-Lawful : Lawful built_in
 built_in-Lawful = record {

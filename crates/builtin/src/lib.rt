@@ -5,13 +5,11 @@ ghost use Rattle.builtin.specs.Laws.{built_in-Lawful};
 ghost use Rattle.datatypes.specs.BuiltIn.{built_in};
 
 mod token;
+mod types;
 
-use datatypes::{DatatypeLibrary, same_name};
+use datatypes::{DatatypeLibrary, TypeName};
 use token::same_tokens;
-
-const STRING: u32 = 1;
-
-const TOKEN: u32 = 2;
+use types::BuiltInType;
 
 /// The library of the empty URI. Its types `string` and `token` allow every string; strings compare by their bytes, tokens
 /// by their bytes once the blanks at both ends are dropped and each run of blanks inside is one byte 20.
@@ -23,25 +21,19 @@ impl DatatypeLibrary for BuiltIn {
 
     ghost lawful = { λ _. built_in-Lawful };
 
-    fn find(&self, uri: &[u8], name: &[u8]) -> Option<u32> {
-        if same_name(b"", b"string", uri, name) {
-            Some(STRING)
-        } else if same_name(b"", b"token", uri, name) {
-            Some(TOKEN)
-        } else {
-            None
-        }
+    fn find(&self, type_name: TypeName<'_>) -> Option<u32> {
+        BuiltInType::named(type_name).map(u32::from)
     }
 
     fn allows(&self, datatype: u32, _s: &[u8]) -> bool {
-        matches!(datatype, STRING | TOKEN)
+        BuiltInType::try_from(datatype).is_ok()
     }
 
     fn same(&self, datatype: u32, a: &[u8], b: &[u8]) -> bool {
-        match datatype {
-            STRING => a == b,
-            TOKEN => same_tokens(a, b),
-            _ => false,
+        match BuiltInType::try_from(datatype) {
+            Ok(BuiltInType::String) => a == b,
+            Ok(BuiltInType::Token) => same_tokens(a, b),
+            Err(_) => false,
         }
     }
 

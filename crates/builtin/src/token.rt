@@ -1,8 +1,8 @@
 ghost use Rattle.std.specs.Prelude.{◌≡◌};
 ghost use Rattle.std.specs.Str.{bytes_eq};
 ghost use Rattle.datatypes.specs.BuiltIn.{collapse};
-ghost use Rattle.builtin.specs.Collapsed.{ahead, bytes_left, Takes, FirstSolid};
-ghost use Rattle.std.specs.Iterator.{at_most};
+ghost use Rattle.builtin.specs.Collapsed.{ahead, FirstSolid};
+ghost use Rattle.std.specs.Iterator.{YieldsFirst, item_count};
 
 use datatypes::is_blank;
 
@@ -36,9 +36,9 @@ impl<'a> Collapsed<'a> {
 impl Iterator for Collapsed<'_> {
     type Item = u8;
 
-    ghost next_gives = { λ c r d. Takes (ahead c) r (ahead d) };
+    ghost next_gives = { YieldsFirst ahead };
 
-    ghost remaining = { λ s. at_most (bytes_left s) };
+    ghost remaining = { item_count ahead };
 
     fn next(&mut self) -> Option<u8> {
         if let Some(b) = self.held.take() {
@@ -55,19 +55,13 @@ impl Iterator for Collapsed<'_> {
     }
 }
 
-// The first byte of a string that is no blank, and what stands after it. The loop is here, and not a call that skips blanks,
-// since the byte at which that stops would be read again.
+// The first byte of a string that is no blank, and what stands after it.
 fn first_solid(s: &[u8]) -> Option<(u8, &[u8])>
     ensures { FirstSolid s.now result }
 {
-    let mut rest = s;
-    while let [b, tail @ ..] = rest {
-        if !is_blank(*b) {
-            return Some((*b, tail));
-        }
-        rest = tail;
-    }
-    None
+    let mut bytes = s.iter();
+    let b = bytes.find(|b| !is_blank(**b))?;
+    Some((*b, bytes.as_slice()))
 }
 
 /// Are two strings same as tokens?

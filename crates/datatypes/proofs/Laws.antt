@@ -32,7 +32,7 @@ same-allows h a b e =
     (sym (h.reflexive a) ∙ h.transitive a b a e back, sym (h.reflexive b) ∙ h.transitive b a b back e)
 
 -- so where two strings are same, a comparison says of both that they are allowed
-pub compared_same : {m : Meaning} → Lawful m → (u n l r : Bytes) (t : ℕ) → m.type_of u n ≡ Some t → same m t l r ≡ true → answer Same ≡ compared m u n l r
+pub compared_same : {m : Meaning} → Lawful m → (u n l r : Bytes) (t : ℕ) → m.type_of u n ≡ Some t → same m t l r ≡ true → answer (Some Same) ≡ compared m u n l r
 compared_same {m} h u n l r t e s =
     let both = same-allows (lawful_at h t) l r s in
     rw (e, s, both.0, both.1)

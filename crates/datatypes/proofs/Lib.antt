@@ -1,4 +1,2 @@
 pub mod Blanks
 pub mod Laws
-pub mod Slices
-pub mod ValueTypes

@@ -1,7 +1,7 @@
 -- What a comparison of two strings under a type of a library answers.
 use Rattle.std.specs.Prelude.{ℕ, Bool, true, cond, Some, None, Option}
 use Rattle.datatypes.specs.declared.comparison.Comparison.{Comparison}
-use Rattle.datatypes.specs.declared.comparison.Comparison.TheVariants.{NoType, Same, Different}
+use Rattle.datatypes.specs.declared.comparison.Comparison.TheVariants.{Same, Different}
 use Rattle.datatypes.specs.Meaning.{Bytes, Meaning, allowed, same}
 
 -- An answer is a number and, where there is a type, whether the left string is allowed and whether the right one is.
@@ -9,11 +9,11 @@ pub record Answer : Type 0 where
   pub number : ℕ
   pub sides : Option (Bool × Bool)
 
--- Each case of `Comparison` with its number and its values.
-abbrev pub answer : Comparison → Answer
-answer NoType = record { number = 0; sides = None }
-answer Same = record { number = 1; sides = Some (true, true) }
-answer (Different l r) = record { number = 2; sides = Some (l, r) }
+-- Each case of what `compare` answers with its number and its values; none stands for no type.
+abbrev pub answer : Option Comparison → Answer
+answer None = record { number = 0; sides = None }
+answer (Some Same) = record { number = 1; sides = Some (true, true) }
+answer (Some (Different l r)) = record { number = 2; sides = Some (l, r) }
 
 -- What a library says of two strings under its type t, if there is one.
 abbrev pub told : Meaning → Option ℕ → Bytes → Bytes → Answer

@@ -2,6 +2,7 @@ pub mod Blanks
 pub mod BuiltIn
 pub mod Comparison
 pub mod Decimals
+pub mod Laws
 pub mod Meaning
 pub mod Names
 pub mod Numeral

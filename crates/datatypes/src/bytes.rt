@@ -1,5 +1,4 @@
 ghost use Rattle.std.specs.Prelude.{◌≡◌};
-ghost use Rattle.std.specs.Str.{bytes_eq};
 ghost use Rattle.datatypes.specs.Blanks.{is_blank, drop_blanks, drop_end_blanks, trim};
 
 /// Is the byte a blank: 20, 09, 0A or 0D?
@@ -20,33 +19,14 @@ pub fn trim_blanks(s: &[u8]) -> &[u8]
 fn skip_blanks(s: &[u8]) -> &[u8]
     ensures { result.now ≡ drop_blanks s.now }
 {
-    let mut rest = s;
-    while let [b, tail @ ..] = rest {
-        if !is_blank(*b) {
-            break;
-        }
-        rest = tail;
-    }
-    rest
+    let blanks = s.iter().take_while(|b| is_blank(**b)).count();
+    &s[blanks..]
 }
 
 // A string without the blanks at its end.
 fn skip_end_blanks(s: &[u8]) -> &[u8]
     ensures { result.now ≡ drop_end_blanks s.now }
 {
-    let mut rest = s;
-    while let [init @ .., b] = rest {
-        if !is_blank(*b) {
-            break;
-        }
-        rest = init;
-    }
-    rest
-}
-
-// Do two strings have the same bytes?
-pub(crate) fn same_bytes(a: &[u8], b: &[u8]) -> bool
-    ensures { result ≡ bytes_eq a.now b.now }
-{
-    a == b
+    let blanks = s.iter().rev().take_while(|b| is_blank(**b)).count();
+    &s[..s.len() - blanks]
 }

@@ -2,12 +2,11 @@ ghost use Rattle.std.specs.Prelude.{◌≡◌};
 ghost use Rattle.datatypes.specs.Comparison.{answer, compared};
 
 use crate::library::DatatypeLibrary;
+use crate::type_name::TypeName;
 
 /// What a library says of two strings under one of its types.
 #[derive(Clone, Copy, PartialEq, Eq, Debug)]
 pub enum Comparison {
-    /// The library has no such type.
-    NoType,
     /// The strings are same, so that both are allowed.
     Same,
     /// The strings are not same; each is allowed or not.
@@ -17,24 +16,21 @@ pub enum Comparison {
     },
 }
 
-/// Compares two strings under the type that a URI and a name stand for.
+/// Compares two strings under the type that has a name, if the library has it.
 pub fn compare<L: DatatypeLibrary>(
     library: &L,
-    uri: &[u8],
-    name: &[u8],
+    type_name: TypeName<'_>,
     left: &[u8],
     right: &[u8],
-) -> Comparison
-    ensures { answer result ≡ compared (L.meaning library.now) uri.now name.now left.now right.now }
+) -> Option<Comparison>
+    ensures { answer result ≡ compared (L.meaning library.now) type_name.entry.uri.now type_name.entry.name.now left.now right.now }
 {
-    let Some(datatype) = library.find(uri, name) else {
-        return Comparison::NoType;
-    };
+    let datatype = library.find(type_name)?;
     if library.same(datatype, left, right) {
-        return Comparison::Same;
+        return Some(Comparison::Same);
     }
-    Comparison::Different {
+    Some(Comparison::Different {
         left_allowed: library.allows(datatype, left),
         right_allowed: library.allows(datatype, right),
-    }
+    })
 }

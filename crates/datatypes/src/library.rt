@@ -1,8 +1,7 @@
 ghost use Rattle.std.specs.Prelude.{◌≡◌, Decides};
 ghost use Rattle.datatypes.specs.Meaning.{Meaning, Lawful, allowed, same, SomeAllowed};
-ghost use Rattle.datatypes.specs.Names.{same_name, only_type};
 
-use crate::bytes::same_bytes;
+use crate::type_name::TypeName;
 
 /// A datatype library. Its meaning is one value: the types that it has, numbered from 1, and the type, if any, that each
 /// URI and name stand for. An implementation gives the meaning, shows that it keeps the laws, and shows that its answers
@@ -13,9 +12,9 @@ use crate::bytes::same_bytes;
 pub trait DatatypeLibrary {
     ghost meaning: { Self → Meaning };
 
-    /// The number of the type that a URI and a name stand for.
-    fn find(&self, uri: &[u8], name: &[u8]) -> Option<u32>
-        ensures { result ≡ (meaning self.now).type_of uri.now name.now };
+    /// The number of the type that has a name.
+    fn find(&self, type_name: TypeName<'_>) -> Option<u32>
+        ensures { result ≡ (meaning self.now).type_of type_name.entry.uri.now type_name.entry.name.now };
 
     /// Does the type allow the string?
     fn allows(&self, datatype: u32, s: &[u8]) -> bool
@@ -34,21 +33,3 @@ pub trait DatatypeLibrary {
 
 /// The URI of the datatypes of XML Schema.
 pub const XML_SCHEMA_DATATYPES: &[u8] = b"http://www.w3.org/2001/XMLSchema-datatypes";
-
-/// Are a URI and a name the two that a type has?
-pub fn same_name(own_uri: &[u8], own_name: &[u8], uri: &[u8], name: &[u8]) -> bool
-    ensures { result ≡ same_name own_uri.now own_name.now uri.now name.now }
-{
-    same_bytes(uri, own_uri) && same_bytes(name, own_name)
-}
-
-/// What a library of one type answers to `find`.
-pub fn find_only_type(own_uri: &[u8], own_name: &[u8], uri: &[u8], name: &[u8]) -> Option<u32>
-    ensures { result ≡ only_type own_uri.now own_name.now uri.now name.now }
-{
-    if same_name(own_uri, own_name, uri, name) {
-        Some(1)
-    } else {
-        None
-    }
-}

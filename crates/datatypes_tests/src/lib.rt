@@ -5,56 +5,51 @@
 #[cfg(test)]
 mod tests {
     use builtin::BuiltIn;
-    use datatypes::{Comparison, DatatypeLibrary, XML_SCHEMA_DATATYPES, compare};
+    use datatypes::{Comparison, DatatypeLibrary, TypeName, XML_SCHEMA_DATATYPES, compare};
     use decimals::{Decimal, Decimals};
     use std::process::Abort;
     use std::test::Fail;
     use switches::Switches;
 
-    const STRING: u32 = 1;
+    const STRING: TypeName<'static> = TypeName {
+        uri: b"",
+        name: b"string",
+    };
 
-    const TOKEN: u32 = 2;
+    const TOKEN: TypeName<'static> = TypeName {
+        uri: b"",
+        name: b"token",
+    };
 
-    const DECIMAL: u32 = 1;
+    const DECIMAL: TypeName<'static> = TypeName {
+        uri: XML_SCHEMA_DATATYPES,
+        name: b"decimal",
+    };
 
-    #[derive(Clone, Copy)]
-    enum Kind {
-        String,
-        Token,
-        Decimal,
-        Switch,
-    }
+    const SWITCH: TypeName<'static> = TypeName {
+        uri: b"urn:example:switches",
+        name: b"switch",
+    };
 
-    struct Pair {
-        left: &'static [u8],
-        right: &'static [u8],
-    }
+    // The numbers of the types in their libraries.
+    const STRING_NUMBER: u32 = 1;
 
-    fn compare_pair(kind: Kind, pair: &Pair) -> Comparison {
-        match kind {
-            Kind::String => compare(&BuiltIn, b"", b"string", pair.left, pair.right),
-            Kind::Token => compare(&BuiltIn, b"", b"token", pair.left, pair.right),
-            Kind::Decimal => compare(
-                &Decimals,
-                XML_SCHEMA_DATATYPES,
-                b"decimal",
-                pair.left,
-                pair.right,
-            ),
-            Kind::Switch => compare(
-                &Switches,
-                b"urn:example:switches",
-                b"switch",
-                pair.left,
-                pair.right,
-            ),
-        }
-    }
+    const TOKEN_NUMBER: u32 = 2;
+
+    const DECIMAL_NUMBER: u32 = 1;
+
+    type Pair = (&'static [u8], &'static [u8]);
 
     // Every pair gets the answer.
-    fn check_pairs(rt: &impl Abort, kind: Kind, pairs: &[Pair], answer: Comparison) {
-        for pair in pairs {
-            assert_eq!(rt; compare_pair(kind, pair), answer);
+    fn check_pairs<L: DatatypeLibrary>(
+        rt: &impl Abort,
+        library: &L,
+        type_name: TypeName<'_>,
+        pairs: &[Pair],
+        answer: Comparison,
+    ) {
+        for (left, right) in pairs {
+            assert_eq!(rt; compare(library, type_name, left, right), Some(answer));
         }
     }
 
@@ -68,197 +63,74 @@ mod tests {
         right_allowed: true,
     };
 
-    const SAME_TOKENS: [Pair; 6] = [
-        Pair {
-            left: b" a",
-            right: b"a",
-        },
-        Pair {
-            left: b"\ta\nb\rc d",
-            right: b"a b c d",
-        },
-        Pair {
-            left: b"a \t\n\r b",
-            right: b"a b",
-        },
-        Pair {
-            left: b"a\r\n",
-            right: b"\n\ta",
-        },
-        Pair {
-            left: b" \t\n\r",
-            right: b"",
-        },
-        Pair {
-            left: b" \x00 \xff ",
-            right: b"\x00 \xff",
-        },
+    const SAME_TOKENS: &[Pair] = &[
+        (b" a", b"a"),
+        (b"\ta\nb\rc d", b"a b c d"),
+        (b"a \t\n\r b", b"a b"),
+        (b"a\r\n", b"\n\ta"),
+        (b" \t\n\r", b""),
+        (b" \x00 \xff ", b"\x00 \xff"),
     ];
 
-    const DIFFERENT_TOKENS: [Pair; 5] = [
-        Pair {
-            left: b"a b",
-            right: b"ab",
-        },
-        Pair {
-            left: b"a\x0bb",
-            right: b"a b",
-        },
-        Pair {
-            left: b"a",
-            right: b"a b",
-        },
-        Pair {
-            left: b"a b",
-            right: b"a",
-        },
-        Pair {
-            left: b"a b",
-            right: b"a c",
-        },
+    const DIFFERENT_TOKENS: &[Pair] = &[
+        (b"a b", b"ab"),
+        (b"a\x0bb", b"a b"),
+        (b"a", b"a b"),
+        (b"a b", b"a"),
+        (b"a b", b"a c"),
     ];
 
     #[test]
     fn strings_and_tokens(rt: HostRuntime) {
-        check_pairs(&rt, Kind::Token, &SAME_TOKENS, Comparison::Same);
-        check_pairs(&rt, Kind::String, &SAME_TOKENS, DIFFERENT);
-        check_pairs(&rt, Kind::Token, &DIFFERENT_TOKENS, DIFFERENT);
+        check_pairs(&rt, &BuiltIn, TOKEN, SAME_TOKENS, Comparison::Same);
+        check_pairs(&rt, &BuiltIn, STRING, SAME_TOKENS, DIFFERENT);
+        check_pairs(&rt, &BuiltIn, TOKEN, DIFFERENT_TOKENS, DIFFERENT);
     }
 
-    const EQUAL_DECIMALS: [Pair; 9] = [
-        Pair {
-            left: b" 07.0 ",
-            right: b"7",
-        },
-        Pair {
-            left: b"-0",
-            right: b"0",
-        },
-        Pair {
-            left: b"+.5",
-            right: b"0.50",
-        },
-        Pair {
-            left: b"5.",
-            right: b"+5",
-        },
-        Pair {
-            left: b"\t\n\r 5 \t\n\r",
-            right: b"5",
-        },
-        Pair {
-            left: b"123456789012345678",
-            right: b"123456789012345678.",
-        },
-        Pair {
-            left: b".123456789012345670",
-            right: b"0.12345678901234567",
-        },
-        Pair {
-            left: b"000000000000000007",
-            right: b"7.00",
-        },
-        Pair {
-            left: b"-0.00000000000000000",
-            right: b"0",
-        },
+    const EQUAL_DECIMALS: &[Pair] = &[
+        (b" 07.0 ", b"7"),
+        (b"-0", b"0"),
+        (b"+.5", b"0.50"),
+        (b"5.", b"+5"),
+        (b"\t\n\r 5 \t\n\r", b"5"),
+        (b"123456789012345678", b"123456789012345678."),
+        (b".123456789012345670", b"0.12345678901234567"),
+        (b"000000000000000007", b"7.00"),
+        (b"-0.00000000000000000", b"0"),
     ];
 
-    const UNEQUAL_DECIMALS: [Pair; 4] = [
-        Pair {
-            left: b"1.5",
-            right: b"-1.5",
-        },
-        Pair {
-            left: b"1.05",
-            right: b"1.5",
-        },
-        Pair {
-            left: b"10",
-            right: b"1",
-        },
-        Pair {
-            left: b"999999999999999999",
-            right: b"99999999999999999.9",
-        },
+    const UNEQUAL_DECIMALS: &[Pair] = &[
+        (b"1.5", b"-1.5"),
+        (b"1.05", b"1.5"),
+        (b"10", b"1"),
+        (b"999999999999999999", b"99999999999999999.9"),
     ];
 
-    const NO_DECIMALS: [Pair; 17] = [
-        Pair {
-            left: b".",
-            right: b"1",
-        },
-        Pair {
-            left: b"+",
-            right: b"1",
-        },
-        Pair {
-            left: b"",
-            right: b"1",
-        },
-        Pair {
-            left: b"1e3",
-            right: b"1000",
-        },
-        Pair {
-            left: b"1 2",
-            right: b"12",
-        },
-        Pair {
-            left: b"--1",
-            right: b"1",
-        },
-        Pair {
-            left: b"1.2.3",
-            right: b"1.23",
-        },
-        Pair {
-            left: b"- 1",
-            right: b"-1",
-        },
-        Pair {
-            left: b"\x001",
-            right: b"1",
-        },
-        Pair {
-            left: b"1\xff",
-            right: b"1",
-        },
-        Pair {
-            left: b"1\x0b",
-            right: b"1",
-        },
-        Pair {
-            left: b"1000000000000000000",
-            right: b"1",
-        },
-        Pair {
-            left: b"1234567890123456789",
-            right: b"1",
-        },
-        Pair {
-            left: b".1234567890123456789",
-            right: b"1",
-        },
-        Pair {
-            left: b"123456789.0123456789",
-            right: b"1",
-        },
-        Pair {
-            left: b"0000000000000000007",
-            right: b"7",
-        },
-        Pair {
-            left: b"0.000000000000000000",
-            right: b"0",
-        },
+    const NO_DECIMALS: &[Pair] = &[
+        (b".", b"1"),
+        (b"+", b"1"),
+        (b"", b"1"),
+        (b"1e3", b"1000"),
+        (b"1 2", b"12"),
+        (b"--1", b"1"),
+        (b"1.2.3", b"1.23"),
+        (b"- 1", b"-1"),
+        (b"\x001", b"1"),
+        (b"1\xff", b"1"),
+        (b"1\x0b", b"1"),
+        (b"1000000000000000000", b"1"),
+        (b"1234567890123456789", b"1"),
+        (b".1234567890123456789", b"1"),
+        (b"123456789.0123456789", b"1"),
+        (b"0000000000000000007", b"7"),
+        (b"0.000000000000000000", b"0"),
     ];
 
     #[test]
     fn decimals(rt: HostRuntime) {
-        check_pairs(&rt, Kind::Decimal, &EQUAL_DECIMALS, Comparison::Same);
-        check_pairs(&rt, Kind::Decimal, &UNEQUAL_DECIMALS, DIFFERENT);
-        check_pairs(&rt, Kind::Decimal, &NO_DECIMALS, LEFT_NOT_ALLOWED);
+        check_pairs(&rt, &Decimals, DECIMAL, EQUAL_DECIMALS, Comparison::Same);
+        check_pairs(&rt, &Decimals, DECIMAL, UNEQUAL_DECIMALS, DIFFERENT);
+        check_pairs(&rt, &Decimals, DECIMAL, NO_DECIMALS, LEFT_NOT_ALLOWED);
     }
 
     #[test]
@@ -273,47 +145,29 @@ mod tests {
         );
     }
 
-    const SAME_SWITCHES: [Pair; 2] = [
-        Pair {
-            left: b" Y",
-            right: b"1\n",
-        },
-        Pair {
-            left: b"0",
-            right: b"N",
-        },
-    ];
+    const SAME_SWITCHES: &[Pair] = &[(b" Y", b"1\n"), (b"0", b"N")];
 
-    const NO_SWITCHES: [Pair; 2] = [
-        Pair {
-            left: b"yes",
-            right: b"Y",
-        },
-        Pair {
-            left: b"",
-            right: b"0",
-        },
-    ];
+    const NO_SWITCHES: &[Pair] = &[(b"yes", b"Y"), (b"", b"0")];
 
     #[test]
     fn another_library(rt: HostRuntime) {
-        check_pairs(&rt, Kind::Switch, &SAME_SWITCHES, Comparison::Same);
-        check_pairs(&rt, Kind::Switch, &NO_SWITCHES, LEFT_NOT_ALLOWED);
+        check_pairs(&rt, &Switches, SWITCH, SAME_SWITCHES, Comparison::Same);
+        check_pairs(&rt, &Switches, SWITCH, NO_SWITCHES, LEFT_NOT_ALLOWED);
         assert_eq!(rt;
-            compare(&Switches, b"", b"switch", b"Y", b"Y"),
-            Comparison::NoType
+            compare(&Switches, TypeName { uri: b"", ..SWITCH }, b"Y", b"Y"),
+            None
         );
     }
 
     #[test]
     fn long_strings(rt: HostRuntime) -> Result<(), Fail> {
         let mut blanks = vec![in rt.alloc(); b' '; 1 << 20]?;
-        assert!(rt; !Decimals.allows(DECIMAL, blanks.as_slice()));
+        assert!(rt; !Decimals.allows(DECIMAL_NUMBER, blanks.as_slice()));
         blanks.push(b'7')?;
-        assert!(rt; BuiltIn.same(TOKEN, blanks.as_slice(), b"7"));
-        assert!(rt; Decimals.same(DECIMAL, blanks.as_slice(), b"7"));
+        assert!(rt; BuiltIn.same(TOKEN_NUMBER, blanks.as_slice(), b"7"));
+        assert!(rt; Decimals.same(DECIMAL_NUMBER, blanks.as_slice(), b"7"));
         let digits = vec![in rt.alloc(); b'1'; 1 << 20]?;
-        assert!(rt; !Decimals.allows(DECIMAL, digits.as_slice()));
+        assert!(rt; !Decimals.allows(DECIMAL_NUMBER, digits.as_slice()));
         Ok(())
     }
 
@@ -332,61 +186,66 @@ mod tests {
         }
         assert!(rt; is_no_type(&Decimals, 2));
         assert!(rt;
-            BuiltIn.allows_any(STRING) && BuiltIn.allows_any(TOKEN) && Decimals.allows_any(DECIMAL)
+            BuiltIn.allows_any(STRING_NUMBER)
+                && BuiltIn.allows_any(TOKEN_NUMBER)
+                && Decimals.allows_any(DECIMAL_NUMBER)
         );
     }
 
+    // A name, and its number in the built-in library and in that of decimals.
     struct Name {
-        uri: &'static [u8],
-        name: &'static [u8],
-        string: Option<u32>,
+        type_name: TypeName<'static>,
+        built_in: Option<u32>,
         decimal: Option<u32>,
     }
 
-    const NAMES: [Name; 6] = [
+    const NAMES: &[Name] = &[
         Name {
-            uri: b"",
-            name: b"string",
-            string: Some(STRING),
+            type_name: STRING,
+            built_in: Some(STRING_NUMBER),
             decimal: None,
         },
         Name {
-            uri: b"",
-            name: b"token",
-            string: Some(TOKEN),
+            type_name: TOKEN,
+            built_in: Some(TOKEN_NUMBER),
             decimal: None,
         },
         Name {
-            uri: b"",
-            name: b"decimal",
-            string: None,
+            type_name: TypeName {
+                uri: b"",
+                name: b"decimal",
+            },
+            built_in: None,
             decimal: None,
         },
         Name {
-            uri: XML_SCHEMA_DATATYPES,
-            name: b"decimal",
-            string: None,
-            decimal: Some(DECIMAL),
+            type_name: DECIMAL,
+            built_in: None,
+            decimal: Some(DECIMAL_NUMBER),
         },
         Name {
-            uri: XML_SCHEMA_DATATYPES,
-            name: b"string",
-            string: None,
+            type_name: TypeName {
+                uri: XML_SCHEMA_DATATYPES,
+                name: b"string",
+            },
+            built_in: None,
             decimal: None,
         },
         Name {
-            uri: XML_SCHEMA_DATATYPES,
-            name: b"Decimal",
-            string: None,
+            type_name: TypeName {
+                uri: XML_SCHEMA_DATATYPES,
+                name: b"Decimal",
+            },
+            built_in: None,
             decimal: None,
         },
     ];
 
     #[test]
     fn names(rt: HostRuntime) {
-        for n in &NAMES {
-            assert_eq!(rt; BuiltIn.find(n.uri, n.name), n.string);
-            assert_eq!(rt; Decimals.find(n.uri, n.name), n.decimal);
+        for name in NAMES {
+            assert_eq!(rt; BuiltIn.find(name.type_name), name.built_in);
+            assert_eq!(rt; Decimals.find(name.type_name), name.decimal);
         }
     }
 }

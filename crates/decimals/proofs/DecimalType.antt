@@ -1,22 +1,16 @@
--- What is read of a string stands for the number that it writes.
-use Rattle.std.proofs.Common.{◌≡◌, false, Some, None, Option, refl}
+-- Decimals in their normal form, as `==` compares them.
+use Rattle.std.proofs.Common.{◌≡◌, Bool, ◌&&◌, eqb, ap, arith}
+use mathlib.Core.Bool.{beq}
+use Rattle.std.proofs.lemmas.Bool.Decides.{same_from_decides}
 use Rattle.decimals.specs.declared.decimal.Decimal.{Decimal}
-use Rattle.decimals.specs.Reads.{held, Reads}
-use Rattle.datatypes.specs.Numeral.{Number, equal_value}
-use Rattle.datatypes.specs.Values.{both_equal}
-use Rattle.decimals.proofs.Numbers.{equal_value_same}
+use Rattle.decimals.specs.Held.{held}
+use Rattle.datatypes.specs.Numeral.{equal_value}
+use Rattle.decimals.specs.Laws.{equal_value-Decides}
+use Rattle.decimals.proofs.Numbers.{one_form}
 
--- where one of two strings is no decimal they are not same
-pub reads_none : (o p : Option Number) → Reads o None → both_equal equal_value o p ≡ false
-reads_none None p h = refl
-reads_none (Some x) p h = absurd h
-
-pub reads_none_right : (o p : Option Number) → Reads p None → both_equal equal_value o p ≡ false
-reads_none_right None p h = refl
-reads_none_right (Some x) None h = refl
-reads_none_right (Some x) (Some y) h = absurd h
-
-pub reads_same : (o p : Option Number) (x y : Decimal) → Reads o (Some x) → Reads p (Some y) → equal_value (held x) (held y) ≡ both_equal equal_value o p
-reads_same None p x y h k = absurd h
-reads_same (Some v) None x y h k = absurd k
-reads_same (Some v) (Some w) x y h k = equal_value_same (held x) (held y) v w h k
+-- numbers in normal form are equal in value exactly if their fields are equal
+pub same_fields : (x y : Decimal) (r : Bool) → r ≡ (beq x.negative y.negative && (eqb x.magnitude y.magnitude && eqb x.fraction y.fraction)) → r ≡ equal_value (held x) (held y)
+same_fields x y r e =
+    same_from_decides r (equal_value (held x) (held y))
+    (λ t. (grind arith, λ _. grind arith), λ h. let f = one_form (held x) (held y) x.trimmed y.trimmed x.positive y.positive h in let n = ap (λ z. z.negative) f in let m = ap (λ z. z.digits) f in let k = ap (λ z. z.scale) f in grind (arith, n, m, k))
+    (equal_value-Decides (held x) (held y))

@@ -1,13 +1,12 @@
--- The library of decimals keeps the laws, since equality of value is an equivalence: that is shown by the natural numbers alone.
-use Rattle.std.specs.Prelude.{◌≡◌, ℕ, zero, suc, ◌*◌, ◌^◌, ◌<◌, Bool, true, false, cond, ℤ, pos, negsuc, ◌*ℤ◌, neg_ℤ, codes, Decides, ◌==◌, refl}
+-- The type of decimals keeps the laws, since equality of value is an equivalence: that is shown by the natural numbers alone.
+use Rattle.std.specs.Prelude.{◌≡◌, ℕ, zero, suc, ◌*◌, ◌^◌, ◌<◌, Bool, true, false, cond, ℤ, pos, negsuc, ◌*ℤ◌, neg_ℤ, Decides, ◌==◌, refl}
 use Rattle.std.proofs.Common.{sym, ap, subst, ◌∙◌, zero-mul, mul_right_comm, mul-pos, arith}
 use Rattle.std.proofs.Math.Nat.{one-le-pow, eq_of_mul-eq-mul_right}
 use Rattle.std.proofs.Math.IntN.{pos-*ℤ-pos, negsuc-*ℤ-pos}
 use Rattle.std.proofs.lemmas.Bool.Decides.{Decides-eqb, Decides-like}
-use Rattle.datatypes.specs.Decimals.{decimals}
-use Rattle.datatypes.specs.Meaning.{Lawful}
-use Rattle.datatypes.specs.Numeral.{Number, numerator, denominator, same_integer, equal_value, decimal_of}
-use Rattle.datatypes.proofs.ValueTypes.{Equivalence, value_type-LawfulType}
+use Rattle.datatypes.specs.Decimals.{decimal}
+use Rattle.datatypes.specs.Numeral.{Number, numerator, denominator, same_integer, equal_value}
+use Rattle.datatypes.specs.Values.{Equivalence, LawfulValueType}
 
 pub ten_pos : (k : ℕ) → 0 < 10 ^ k
 ten_pos k = one-le-pow k 10 (omega arith)
@@ -103,8 +102,5 @@ equal_value-Equivalence = record { reflexive = equal_value_reflexive; symmetric 
 
 -- ---- the laws
 
-pub decimals-Lawful : Lawful decimals
-decimals-Lawful = record {
-  each = (value_type-LawfulType equal_value equal_value-Equivalence decimal_of (codes "0") (omega arith, tt) refl, tt);
-  known = λ uri name t e. grind arith;
-}
+pub decimal-Lawful : LawfulValueType decimal
+decimal-Lawful = record { equivalence = equal_value-Equivalence; in_bytes = (omega arith, tt); stands = refl }

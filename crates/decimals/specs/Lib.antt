@@ -1,4 +1,4 @@
 pub mod Digits
+pub mod Held
 pub mod Laws
 pub mod NormalForm
-pub mod Reads

@@ -1,7 +1,8 @@
 ghost use Rattle.std.specs.Prelude.{◌≡◌, true};
-ghost use Rattle.decimals.specs.Reads.{held, Reads};
+ghost use Rattle.decimals.specs.Held.{held};
 ghost use Rattle.decimals.specs.Digits.{Pushed, ReadsDigits, number};
 ghost use Rattle.datatypes.specs.Numeral.{decimal_of, equal_value, starts_minus, unsigned};
+ghost use Rattle.datatypes.specs.Values.{Reads};
 
 use crate::decimal::Decimal;
 use crate::digits::Digits;
@@ -13,18 +14,19 @@ impl Decimal {
     /// Reads a decimal: blanks at both ends are passed over; a sign may stand first; then come digits, at least one and at
     /// most 18, leading and last zeros among them, and a point may stand before, between or after them.
     pub fn parse(s: &[u8]) -> Option<Decimal>
-        ensures { Reads (decimal_of s.now) result }
+        ensures { Reads equal_value held (decimal_of s.now) result }
     {
         let (negative, numeral) = split_sign(trim_blanks(s));
         let digits = Digits::read(numeral)?;
         Some(Decimal::normal(negative, digits))
     }
 
-    /// Are the two equal in value?
+    /// Are the two equal in value? In the normal form that says whether their fields are equal.
+    #[tactic(auto, using(crate::proofs::DecimalType::same_fields))]
     pub fn same_value(&self, other: &Decimal) -> bool
         ensures { result ≡ equal_value (held self.now) (held other.now) }
     {
-        equal_fields(self, other)
+        self == other
     }
 
     // The normal form of the number that a sign and digits write.
@@ -43,13 +45,6 @@ impl Decimal {
             fraction,
         }
     }
-}
-
-// Are the fields equal? In the normal form that says whether the values are.
-fn equal_fields(a: &Decimal, b: &Decimal) -> bool
-    ensures { result ≡ equal_value (held a.now) (held b.now) }
-{
-    *a == *b
 }
 
 // Is there a minus at the front, and what stands after the sign, if there is one?
@@ -91,11 +86,9 @@ impl Digits {
             b'0'..=b'9' if self.count < MOST_DIGITS => Some(Digits {
                 magnitude: self.magnitude * 10 + u64::from(b - b'0'),
                 count: self.count + 1,
-                fraction: match self.fraction {
-                    Some(n) => Some(n + 1),
-                    None => None,
-                },
+                fraction: self.fraction.map(|n| n + 1),
             }),
+            // Written out, since the toolchain has no `..self` where a struct has ghost fields.
             b'.' if self.fraction.is_none() => Some(Digits {
                 magnitude: self.magnitude,
                 count: self.count,

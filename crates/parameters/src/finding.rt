@@ -37,22 +37,24 @@ pub(crate) fn examine(line: &[u8]) -> Finding<'_>
         };
     };
     match judge(row) {
-        Comparison::NoType => Finding {
+        None => Finding {
             before: b"no type ",
             name: row.name,
             after: b"",
             outcome: Outcome::NotCompared,
         },
-        Comparison::Same => Finding {
+        Some(Comparison::Same) => Finding {
             before: b"",
             name: row.name,
             after: b": left allowed, right allowed, same",
             outcome: Outcome::Same,
         },
-        Comparison::Different {
-            left_allowed,
-            right_allowed,
-        } => Finding {
+        Some(
+            Comparison::Different {
+                left_allowed,
+                right_allowed,
+            },
+        ) => Finding {
             before: b"",
             name: row.name,
             after: difference(left_allowed, right_allowed),

@@ -7,7 +7,7 @@ ghost use Rattle.datatypes.specs.Comparison.{answer};
 
 use crate::split::split_once;
 use builtin::BuiltIn;
-use datatypes::{Comparison, XML_SCHEMA_DATATYPES, compare};
+use datatypes::{Comparison, TypeName, XML_SCHEMA_DATATYPES, compare};
 use decimals::Decimals;
 
 // The values that two systems hold for one parameter, and the name of their type.
@@ -30,17 +30,12 @@ pub(crate) fn split_row(line: &[u8]) -> Option<ParameterRow<'_>>
     Some(ParameterRow { name, left, right })
 }
 
-pub(crate) fn judge(row: ParameterRow<'_>) -> Comparison
+pub(crate) fn judge(row: ParameterRow<'_>) -> Option<Comparison>
     ensures { answer result ≡ judged (named row.entry) }
 {
-    match compare(&BuiltIn, b"", row.name, row.left, row.right) {
-        Comparison::NoType => compare(
-            &Decimals,
-            XML_SCHEMA_DATATYPES,
-            row.name,
-            row.left,
-            row.right,
-        ),
-        found => found,
-    }
+    let ParameterRow { name, left, right } = row;
+    compare(&BuiltIn, TypeName { uri: b"", name }, left, right).or_else(|| {
+        let uri = XML_SCHEMA_DATATYPES;
+        compare(&Decimals, TypeName { uri, name }, left, right)
+    })
 }

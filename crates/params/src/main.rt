@@ -56,13 +56,10 @@ fn run(rt: &HostRuntime) -> Result<(), Failure> {
 // The file that is named, or else standard input, as bytes.
 fn read_file(rt: &HostRuntime) -> Result<Vec<u8>, Failure> {
     if let Some(path) = env::args(rt)?.nth(1) {
-        return match fs::read(rt, path.as_str()) {
-            Ok(file) => Ok(file),
-            Err(error) => Err(Failure {
-                error,
-                path: Some(path),
-            }),
-        };
+        return fs::read(rt, path.as_str()).map_err(|error| Failure {
+            error,
+            path: Some(path),
+        });
     }
     let mut file = Vec::new(rt.alloc());
     rt.stdin().read_to_end(&mut file)?;

@@ -1,9 +1,8 @@
 -- The library of this example: the type `switch` of the URI `urn:example:switches`.
 use Rattle.std.specs.Prelude.{ℕ, Bool, true, false, cond, ◌||◌, [], ◌∷◌, Some, None, codes, Option, ◌==◌}
 use Rattle.datatypes.specs.Blanks.{trim}
-use Rattle.datatypes.specs.Meaning.{Bytes, Meaning}
-use Rattle.datatypes.specs.Names.{only_type}
-use Rattle.datatypes.specs.Values.{value_type}
+use Rattle.datatypes.specs.Meaning.{Bytes}
+use Rattle.datatypes.specs.Values.{ValueType}
 
 -- The letter Y and the digit 1 stand for on, N and 0 for off.
 abbrev pub letter_value : ℕ → Option Bool
@@ -23,9 +22,12 @@ equal_switches true y = y
 equal_switches false true = false
 equal_switches false false = true
 
--- Type 1 is `switch`.
-abbrev pub switches : Meaning
-switches = record {
-  types = value_type switch_of equal_switches ∷ [];
-  type_of = only_type (codes "urn:example:switches") (codes "switch");
+-- A `switch` is a string that stands for on or off, and two are same if they stand for the same.
+abbrev pub switch : ValueType Bool
+switch = record {
+  uri = codes "urn:example:switches";
+  name = codes "switch";
+  read = switch_of;
+  equal = equal_switches;
+  example = codes "0";
 }

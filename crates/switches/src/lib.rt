@@ -2,53 +2,48 @@
 //! and `N` and `0` for off.
 #![tactic(auto)]
 
-ghost use Rattle.std.specs.Prelude.{◌≡◌};
-ghost use Rattle.switches.specs.Laws.{switches-Lawful};
-ghost use Rattle.switches.specs.Switch.{switch_of, switches};
+ghost use Rattle.std.specs.Prelude.{Bool};
+ghost use Rattle.switches.specs.Laws.{switch-Lawful};
+ghost use Rattle.switches.specs.Switch.{switch};
 
-use datatypes::{DatatypeLibrary, find_only_type, trim_blanks};
-
-const SWITCH: u32 = 1;
+use datatypes::{OneType, TypeName, trim_blanks};
 
 /// The library of switches.
 #[derive(Clone, Copy)]
 pub struct Switches;
 
-// Reads a switch.
-fn parse_switch(s: &[u8]) -> Option<bool>
-    ensures { result ≡ switch_of s.now }
-{
-    match trim_blanks(s) {
-        [b'Y' | b'1'] => Some(true),
-        [b'N' | b'0'] => Some(false),
-        _ => None,
-    }
-}
+impl OneType for Switches {
+    // Is it on?
+    type Value = bool;
 
-impl DatatypeLibrary for Switches {
-    ghost meaning = { λ _. switches };
+    ghost Meant = { Bool };
 
-    ghost lawful = { λ _. switches-Lawful };
+    ghost meant = { λ on. on };
 
-    fn find(&self, uri: &[u8], name: &[u8]) -> Option<u32> {
-        find_only_type(b"urn:example:switches", b"switch", uri, name)
-    }
+    ghost definition = { switch };
 
-    fn allows(&self, datatype: u32, s: &[u8]) -> bool {
-        datatype == SWITCH && parse_switch(s).is_some()
-    }
-
-    fn same(&self, datatype: u32, a: &[u8], b: &[u8]) -> bool {
-        if datatype != SWITCH {
-            return false;
-        }
-        match (parse_switch(a), parse_switch(b)) {
-            (Some(x), Some(y)) => x == y,
-            _ => false,
+    fn type_name() -> TypeName<'static> {
+        TypeName {
+            uri: b"urn:example:switches",
+            name: b"switch",
         }
     }
 
-    fn allows_any(&self, datatype: u32) -> bool {
-        self.allows(datatype, b"0")
+    fn parse(s: &[u8]) -> Option<bool> {
+        match trim_blanks(s) {
+            [b'Y' | b'1'] => Some(true),
+            [b'N' | b'0'] => Some(false),
+            _ => None,
+        }
     }
+
+    fn same_value(x: &bool, y: &bool) -> bool {
+        x == y
+    }
+
+    fn example() -> &'static [u8] {
+        b"0"
+    }
+
+    ghost lawful = { switch-Lawful };
 }

@@ -1,14 +1,16 @@
-use Rattle.std.proofs.Common.{sym, ◌∙◌, rules}
-use Rattle.datatypes.proofs.Blanks.{drop_blanks_blank, drop_blanks_solid, drop_blanks_none}
+use Rattle.std.proofs.Common.{rules, ap, sym, ◌∙◌, ◌∷◌, tests}
+use Rattle.datatypes.specs.Blanks.{drop_blanks}
+use Rattle.builtin.proofs.First.{found}
 use Rattle.builtin.proofs.token.first_solid.Goals as goal
 
-pub returns-then-not-is_blank : goal.returns-then-not-is_blank
-returns-then-not-is_blank c =
-    sym c.loop-rest.invariant ∙ drop_blanks_solid c.loop-rest.rest.now (search rules) (sym c.if-not-is_blank.ensures)
-
-pub loop-rest-preserved : goal.loop-rest-preserved
-loop-rest-preserved c =
-    drop_blanks_blank c.loop-rest.rest.now (search rules) (sym c.if-not-is_blank.ensures) ∙ c.loop-rest.invariant
+pub returns-in_err-b : goal.returns-in_err-b
+returns-in_err-b c =
+    let e = found _ (λ x p q k. search (rules, tests)) (λ x p q k. search (rules, tests)) c.iter-bytes.result c.find.new.self _ c.find.result c.find.ensures.ran in
+    let f = rw c.in_err-b.was at e in
+    rw (c.from_residual.ensures, ← c.iter-bytes.ensures.rest) f
 
 pub returns : goal.returns
-returns c = sym c.loop-rest.invariant ∙ drop_blanks_none c.loop-rest.rest.now (search rules)
+returns c =
+    let e = found _ (λ x p q k. search (rules, tests)) (λ x p q k. search (rules, tests)) c.iter-bytes.result c.find.new.self _ c.find.result c.find.ensures.ran in
+    let f = rw c.in_ok-b.was at e in
+    ap drop_blanks (sym c.iter-bytes.ensures.rest) ∙ f ∙ ap (λ t. c.in_ok-b.b.now ∷ t) (sym c.as_slice.ensures.value)

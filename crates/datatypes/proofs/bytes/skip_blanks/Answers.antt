@@ -1,13 +1,11 @@
-use Rattle.std.proofs.Common.{sym, ◌∙◌, rules}
-use Rattle.datatypes.proofs.Blanks.{drop_blanks_blank, drop_blanks_none}
-use Rattle.datatypes.proofs.Slices.{no_bytes}
+use Rattle.std.proofs.Common.{rules, tests}
+use Rattle.std.proofs.lemmas.Iterator.{YieldsList-from_slice}
+use Rattle.std.proofs.lemmas.Iterator.Consumers.{YieldsList-at}
+use Rattle.datatypes.proofs.Blanks.{counted, front}
 use Rattle.datatypes.proofs.bytes.skip_blanks.Goals as goal
 
-pub loop-rest-preserved : goal.loop-rest-preserved
-loop-rest-preserved c =
-    drop_blanks_blank c.loop-rest.rest.now (search rules) (sym c.if-not-is_blank.ensures) ∙ c.loop-rest.invariant
-
-pub returns-in_default : goal.returns-in_default
-returns-in_default c =
-    let s = c.loop-rest.rest.now in
-    no_bytes s (search rules) ∙ sym (drop_blanks_none s (search rules)) ∙ c.loop-rest.invariant
+pub returns : goal.returns
+returns c =
+    let s = c.args.s.now in
+    let n = c.count-blanks.result in
+    front s n (counted _ s c.take_while.result n c.count-blanks.ensures.ran (YieldsList-at c.take_while.ensures.source (YieldsList-from_slice s (cc))) c.take_while.ensures.closure c.take_while.ensures.done (λ x b q k. search (rules, tests)))

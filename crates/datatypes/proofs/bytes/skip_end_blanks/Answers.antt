@@ -1,17 +1,11 @@
-use Rattle.std.proofs.Common.{sym, ◌∙◌, rules}
-use Rattle.datatypes.proofs.Blanks.{drop_end_blanks_blank, drop_end_blanks_solid, drop_end_blanks_none}
-use Rattle.datatypes.proofs.Slices.{no_bytes}
+use Rattle.std.proofs.Common.{reverse, rules, tests}
+use Rattle.std.proofs.lemmas.Iterator.Adapters.{YieldsList-from_rev_slice}
+use Rattle.std.proofs.lemmas.Iterator.Consumers.{YieldsList-at}
+use Rattle.datatypes.proofs.Blanks.{counted, back}
 use Rattle.datatypes.proofs.bytes.skip_end_blanks.Goals as goal
 
-pub loop-rest-preserved : goal.loop-rest-preserved
-loop-rest-preserved c =
-    drop_end_blanks_blank c.loop-rest.rest.now (search rules) (sym c.if-not-is_blank.ensures) ∙ c.loop-rest.invariant
-
-pub returns-in_default : goal.returns-in_default
-returns-in_default c =
-    let s = c.loop-rest.rest.now in
-    no_bytes s (search rules) ∙ sym (drop_end_blanks_none s (search rules)) ∙ c.loop-rest.invariant
-
-pub returns-then-not-is_blank : goal.returns-then-not-is_blank
-returns-then-not-is_blank c =
-    sym (drop_end_blanks_solid c.loop-rest.rest.now (search rules) (sym c.if-not-is_blank.ensures)) ∙ c.loop-rest.invariant
+pub returns : goal.returns
+returns c =
+    let s = c.args.s.now in
+    let n = c.count-blanks.result in
+    back s n (counted _ (reverse s) c.take_while.result n c.count-blanks.ensures.ran (YieldsList-at c.take_while.ensures.source (YieldsList-from_rev_slice s (cc))) c.take_while.ensures.closure c.take_while.ensures.done (λ x b q k. search (rules, tests)))

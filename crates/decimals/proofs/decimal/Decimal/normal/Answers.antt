@@ -1,7 +1,7 @@
-use Rattle.std.proofs.Common.{◌^◌, unwrap_or, arith}
+use Rattle.std.proofs.Common.{◌^◌, arith}
 use Rattle.std.proofs.lemmas.Bool.Decides.{nat_tests}
 use Rattle.decimals.proofs.Numerals.{room}
-use Rattle.decimals.proofs.Numbers.{cut_zero, equal_by_parts}
+use Rattle.decimals.proofs.Numbers.{cut_zero}
 use Rattle.decimals.proofs.decimal.Decimal.normal.Goals as goal
 use Rattle.decimals.proofs.decimal.Decimal.normal.Goals.{then-loop-fraction-test+else-magnitude-eq0, else-loop-fraction-test, then-negative, else-negative}
 
@@ -20,10 +20,3 @@ invariant_of-result c =
       trimmed = elim c.loop-fraction-test.branch [ then-loop-fraction-test+else-magnitude-eq0 w ↦ grind (arith, nat_tests, w.if-magnitude-eq0.false) | else-loop-fraction-test w ↦ grind (arith, nat_tests, w.loop-fraction-test.false) ];
       positive = elim c.if-negative.branch [ then-negative w ↦ grind (arith, nat_tests, w.result-is) | else-negative w ↦ grind (arith, nat_tests, w.result-is) ];
     }
-
-pub returns : goal.returns
-returns c =
-    equal_by_parts c.if-negative.result c.args.negative c.loop-fraction.magnitude c.args.digits.magnitude c.loop-fraction.fraction (unwrap_or c.args.digits.fraction 0) c.unwrap_or-fraction.result
-    c.loop-fraction.invariant.0
-    c.unwrap_or-fraction.ensures
-    (λ some. elim c.if-negative.branch [ then-negative w ↦ grind (arith, nat_tests, w.result-is, w.if-negative.true) | else-negative w ↦ grind (arith, nat_tests, w.result-is, w.if-negative.false) ])

@@ -1,14 +1,10 @@
--- A type whose strings stand for values keeps the laws, if equality of the values is an equivalence.
-use Rattle.std.proofs.Common.{◌≡◌, Bool, true, is_some, Some, None, Option, sym, refl, ◌∙◌}
+-- A library of one type, whose strings stand for values, keeps the laws.
+use Rattle.std.specs.Prelude.{◌≡◌, Bool, true, is_some, Some, None, Option, Decides, refl}
 use Rattle.std.specs.Str.{bytes_eq}
+use Rattle.std.proofs.Common.{arith, sym, ◌∙◌}
 use Rattle.std.proofs.lemmas.Slice.Eq.{bytes_eq-Decides}
-use Rattle.datatypes.specs.Meaning.{Bytes, AreBytes, LawfulType}
-use Rattle.datatypes.specs.Values.{both_equal, value_type}
-
-pub record Equivalence {V : Type 0} (equal : V → V → Bool) : Type 0 where
-  pub reflexive : (x : V) → equal x x ≡ true
-  pub symmetric : (x y : V) → equal x y ≡ true → equal y x ≡ true
-  pub transitive : (x y z : V) → equal x y ≡ true → equal y z ≡ true → equal x z ≡ true
+use Rattle.datatypes.specs.Meaning.{Bytes, AreBytes, LawfulType, Lawful}
+use Rattle.datatypes.specs.Values.{both_equal, value_type, Equivalence, ValueType, LawfulValueType, library_of}
 
 module _ {V : Type 0} (equal : V → V → Bool) (e : Equivalence equal) where
   both_equal_symmetric : (x y : Option V) → both_equal equal x y ≡ true → both_equal equal y x ≡ true
@@ -35,9 +31,19 @@ module _ {V : Type 0} (equal : V → V → Bool) (e : Equivalence equal) where
     in_bytes = λ a h. (s, bytes, some);
   }
 
-pub bytes_eq-Equivalence : Equivalence bytes_eq
-bytes_eq-Equivalence = record {
-  reflexive = λ x. (bytes_eq-Decides x x).1 refl;
-  symmetric = λ x y h. (bytes_eq-Decides y x).1 (sym ((bytes_eq-Decides x y).0 h));
-  transitive = λ x y z h k. (bytes_eq-Decides x z).1 ((bytes_eq-Decides x y).0 h ∙ (bytes_eq-Decides y z).0 k);
+pub library_of-Lawful : {V : Type 0} (t : ValueType V) → LawfulValueType t → Lawful (library_of t)
+library_of-Lawful t h = record {
+  each = (value_type-LawfulType t.equal h.equivalence t.read t.example h.in_bytes h.stands, tt);
+  known = λ uri name n e. grind arith;
 }
+
+-- what decides whether two values are the same one is an equivalence
+pub Equivalence-from_Decides : {V : Type 0} (equal : V → V → Bool) → ((x y : V) → Decides (equal x y) (x ≡ y)) → Equivalence equal
+Equivalence-from_Decides equal h = record {
+  reflexive = λ x. (h x x).1 refl;
+  symmetric = λ x y e. (h y x).1 (sym ((h x y).0 e));
+  transitive = λ x y z e f. (h x z).1 ((h x y).0 e ∙ (h y z).0 f);
+}
+
+pub bytes_eq-Equivalence : Equivalence bytes_eq
+bytes_eq-Equivalence = Equivalence-from_Decides bytes_eq bytes_eq-Decides

@@ -1,0 +1,55 @@
+ghost use Rattle.std.specs.Prelude.{◌≡◌};
+ghost use Rattle.std.specs.Option.{option_map};
+ghost use Rattle.datatypes.specs.BuiltIn.{built_in};
+ghost use Rattle.builtin.specs.Types.{number_of, Decodes};
+
+use datatypes::TypeName;
+
+/// The types of the library. Their numbers are those of its meaning.
+#[derive(Clone, Copy, PartialEq, Eq, Debug)]
+pub(crate) enum BuiltInType {
+    String,
+    Token,
+}
+
+/// A number by which the library has no type.
+#[derive(Clone, Copy, PartialEq, Eq, Debug)]
+pub(crate) struct NoType(pub u32);
+
+impl TryFrom<u32> for BuiltInType {
+    type Error = NoType;
+
+    ghost try_from_gives = { Decodes };
+
+    fn try_from(number: u32) -> Result<Self, NoType> {
+        match number {
+            1 => Ok(BuiltInType::String),
+            2 => Ok(BuiltInType::Token),
+            _ => Err(NoType(number)),
+        }
+    }
+}
+
+impl From<BuiltInType> for u32 {
+    ghost from_gives = { λ datatype number. number ≡ number_of datatype };
+
+    fn from(datatype: BuiltInType) -> u32 {
+        match datatype {
+            BuiltInType::String => 1,
+            BuiltInType::Token => 2,
+        }
+    }
+}
+
+impl BuiltInType {
+    /// The type that has a name.
+    pub(crate) fn named(type_name: TypeName<'_>) -> Option<BuiltInType>
+        ensures { option_map number_of result ≡ built_in.type_of type_name.entry.uri.now type_name.entry.name.now }
+    {
+        match (type_name.uri, type_name.name) {
+            (b"", b"string") => Some(BuiltInType::String),
+            (b"", b"token") => Some(BuiltInType::Token),
+            _ => None,
+        }
+    }
+}

@@ -1,0 +1,71 @@
+ghost use Rattle.std.specs.Prelude.{◌≡◌};
+ghost use Rattle.datatypes.specs.Laws.{library_of-Lawful};
+ghost use Rattle.datatypes.specs.Values.{ValueType, LawfulValueType, Reads, library_of};
+
+use crate::library::DatatypeLibrary;
+use crate::type_name::TypeName;
+
+// The number of the only type: the types of a library are numbered from 1.
+const ONLY: u32 = 1;
+
+/// A library of one type, whose strings stand for values. An implementation defines the type, reads its strings and compares
+/// their values, and is a `DatatypeLibrary` by that: a string is allowed if it stands for a value, and two are same if their
+/// values are equal.
+pub trait OneType {
+    /// What the code has for the value of a string.
+    type Value: Drop;
+
+    // What the definition of the type has for it, and which of these a value of the code means.
+    ghost Meant: { Type 0 };
+
+    ghost meant: { Self.Value → Meant };
+
+    ghost definition: { ValueType Meant };
+
+    /// What the type is called.
+    fn type_name() -> TypeName<'static>
+        ensures uri { result.uri.now ≡ definition.uri }
+        ensures name { result.name.now ≡ definition.name };
+
+    /// The value that a string stands for, if it stands for one.
+    fn parse(s: &[u8]) -> Option<Self::Value>
+        ensures { Reads definition.equal meant (definition.read s.now) result };
+
+    /// Are two values equal?
+    fn same_value(x: &Self::Value, y: &Self::Value) -> bool
+        ensures { result ≡ definition.equal (meant x.now) (meant y.now) };
+
+    /// A string that stands for a value.
+    fn example() -> &'static [u8]
+        ensures { result.now ≡ definition.example };
+
+    ghost lawful: { LawfulValueType definition };
+}
+
+impl<T: OneType> DatatypeLibrary for T {
+    ghost meaning = { λ _. library_of T.definition };
+
+    ghost lawful = { λ _. library_of-Lawful T.definition T.lawful };
+
+    fn find(&self, type_name: TypeName<'_>) -> Option<u32> {
+        (type_name == T::type_name()).then_some(ONLY)
+    }
+
+    fn allows(&self, datatype: u32, s: &[u8]) -> bool {
+        datatype == ONLY && T::parse(s).is_some()
+    }
+
+    fn same(&self, datatype: u32, a: &[u8], b: &[u8]) -> bool {
+        if datatype != ONLY {
+            return false;
+        }
+        match (T::parse(a), T::parse(b)) {
+            (Some(x), Some(y)) => T::same_value(&x, &y),
+            _ => false,
+        }
+    }
+
+    fn allows_any(&self, datatype: u32) -> bool {
+        self.allows(datatype, T::example())
+    }
+}

@@ -4,7 +4,9 @@ use Rattle.std.proofs.Common.{sym, ap, subst, ◌∙◌, zero-mul, mul_right_com
 use Rattle.std.proofs.Math.Nat.{one-le-pow, eq_of_mul-eq-mul_right}
 use Rattle.std.proofs.Math.IntN.{pos-*ℤ-pos, negsuc-*ℤ-pos}
 use Rattle.std.proofs.lemmas.Bool.Decides.{Decides-eqb, Decides-like}
-use Rattle.datatypes.specs.Decimals.{decimal}
+use Rattle.datatypes.specs.Decimals.{decimal, decimals}
+use Rattle.datatypes.specs.Laws.{library_of-Lawful}
+use Rattle.datatypes.specs.Meaning.{Lawful}
 use Rattle.datatypes.specs.Numeral.{Number, numerator, denominator, same_integer, equal_value}
 use Rattle.datatypes.specs.Values.{Equivalence, LawfulValueType}
 
@@ -104,3 +106,7 @@ equal_value-Equivalence = record { reflexive = equal_value_reflexive; symmetric 
 
 pub decimal-Lawful : LawfulValueType decimal
 decimal-Lawful = record { equivalence = equal_value-Equivalence; in_bytes = (omega arith, tt); stands = refl }
+
+-- so the library does
+pub decimals-Lawful : Lawful decimals
+decimals-Lawful = library_of-Lawful decimal decimal-Lawful

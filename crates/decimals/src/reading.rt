@@ -72,10 +72,7 @@ impl Digits {
         for b in numeral {
             digits = digits.push(*b)?;
         }
-        if digits.count == 0 {
-            return None;
-        }
-        Some(digits)
+        (digits.count > 0).then_some(digits)
     }
 
     // The digits with one byte more, or none where no numeral goes on so.

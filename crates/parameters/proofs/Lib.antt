@@ -1,3 +1,3 @@
-pub mod Cuts
+pub mod Fields
+pub mod Lines
 pub mod Reports
-pub mod Texts

@@ -1,70 +1,49 @@
--- The report, line by line.
-use Rattle.std.proofs.Common.{◌≡◌, ℕ, suc, ◌+◌, ◌<◌, ◌≤◌, Bool, true, false, cond, eqb, List, [], ◌∷◌, ◌++◌, length, sym, refl, ap, ◌∙◌, append_assoc, append-nil, arith}
+-- The report, with a line more at its end.
+use Rattle.std.proofs.Common.{◌≡◌, ℕ, ◌+◌, ◌<◌, ◌≤◌, ◌^◌, cond, eqb, List, [], ◌∷◌, ◌++◌, length, Some, None, Option, sym, refl, ap, ◌∙◌, append_assoc, append-nil, arith, codes, decimal, length-append}
+use Rattle.std.specs.List.{count_by}
+use Rattle.std.proofs.lemmas.Grind.{common_steps}
+use Rattle.std.proofs.lemmas.List.Recursion.{is_count_by}
+use Rattle.std.proofs.lemmas.List.Sums.{count_by-le-length}
+use Rattle.datatypes.specs.Comparison.{answer}
 use Rattle.datatypes.specs.Meaning.{Bytes}
-use Rattle.parameters.specs.Lines.{lines_of}
-use Rattle.parameters.specs.Report.{line_text, lines_text, tallied}
-use Rattle.parameters.specs.Rows.{outcome_of}
+use Rattle.datatypes.specs.declared.comparison.Comparison.{Comparison}
+use Rattle.datatypes.specs.declared.comparison.Comparison.TheVariants.{Same, Different}
+use Rattle.parameters.specs.declared.tally.Tally.{Tally}
+use Rattle.parameters.specs.Report.{found, line_text, lines_text, summary, tallied}
+use Rattle.parameters.specs.Rows.{row_of, outcome_of}
+use Rattle.parameters.specs.Tally.{Counts, HasRoom, counted, tally_text}
+use Rattle.parameters.specs.Lines.{fields_of}
 
--- n lines of a file have been written after what stood before, of which s were same, d different and u not compared; rest is what is left
-pub record Sofar (file before rest text : Bytes) (n s d u : ℕ) : Type 0 where
-  pub texts : text ++ lines_text (n + 1) (lines_of rest) ≡ before ++ lines_text 1 (lines_of file)
-  pub count : n + length (lines_of rest) ≡ length (lines_of file)
-  pub sames : s + tallied 1 (lines_of rest) ≡ tallied 1 (lines_of file)
-  pub differents : d + tallied 2 (lines_of rest) ≡ tallied 2 (lines_of file)
-  pub others : u + tallied 0 (lines_of rest) ≡ tallied 0 (lines_of file)
-  pub few : n + length rest ≤ length file
-  pub all : s + d + u ≡ n
+pub lines_text-append : (n : ℕ) (ls : List Bytes) (l : Bytes) → lines_text n (ls ++ l ∷ []) ≡ lines_text n ls ++ line_text (n + length ls) l
+lines_text-append n [] l = append-nil (line_text n l) ∙ ap (λ m. line_text m l) (omega arith)
+lines_text-append n (k ∷ ls) l =
+    ap (λ t. line_text n k ++ t) (lines_text-append (n + 1) ls l) ∙ sym (append_assoc (line_text n k) (lines_text (n + 1) ls) (line_text (n + 1 + length ls) l))
+    ∙ ap (λ m. line_text n k ++ lines_text (n + 1) ls ++ line_text m l) (omega arith)
 
-pub begin : (file text : Bytes) → Sofar file text file text 0 0 0 0
-begin file text = record {
-  texts = refl;
-  count = omega arith;
-  sames = omega arith;
-  differents = omega arith;
-  others = omega arith;
-  few = omega arith;
-  all = omega arith;
-}
+tallied-count_by : (k : ℕ) (ls : List Bytes) → tallied k ls ≡ count_by (λ l. eqb (outcome_of l) k) ls
+tallied-count_by k ls = is_count_by (tallied k) (λ l. eqb (outcome_of l) k) refl (λ l ls. ap (λ n. cond (eqb (outcome_of l) k) n (tallied k ls)) (omega arith)) ls
 
--- one line more of outcome k
-tally_more : (k x : ℕ) (line : Bytes) (ls : List Bytes) → x + tallied k (line ∷ ls) ≡ x + cond (eqb (outcome_of line) k) 1 0 + tallied k ls
-tally_more k x line ls = go (eqb (outcome_of line) k)
-  where
-    go : (t : Bool) → x + cond t (suc (tallied k ls)) (tallied k ls) ≡ x + cond t 1 0 + tallied k ls
-    go true = omega arith
-    go false = omega arith
+tallied-append : (k : ℕ) (ls : List Bytes) (l : Bytes) → tallied k (ls ++ l ∷ []) ≡ tallied k ls + cond (eqb (outcome_of l) k) 1 0
+tallied-append k ls l = simp tallied-count_by (grind (arith, common_steps))
 
-module _ {file before rest text : Bytes} {n s d u : ℕ} (so : Sofar file before rest text n s d u) where
-  -- a line is taken off, and its outcome counted
-  step : (line after more : Bytes) (s' d' u' : ℕ) → lines_of rest ≡ line ∷ lines_of after → length after < length rest → more ≡ text ++ line_text (n + 1) line → s' ≡ s + cond (eqb (outcome_of line) 1) 1 0 → d' ≡ d + cond (eqb (outcome_of line) 2) 1 0 → u' ≡ u + cond (eqb (outcome_of line) 0) 1 0 → s' + d' + u' ≡ n + 1 → Sofar file before after more (n + 1) s' d' u'
-  step line after more s' d' u' e lt f a b c sum = record {
-    texts = ap (λ t. t ++ lines_text (n + 1 + 1) (lines_of after)) f ∙ append_assoc text (line_text (n + 1) line) (lines_text (n + 1 + 1) (lines_of after)) ∙ ap (λ ls. text ++ lines_text (n + 1) ls) (sym e) ∙ so.texts;
-    count = omega (arith, so.count, ap length e);
-    sames = rw a (sym (tally_more 1 s line (lines_of after)) ∙ ap (λ ls. s + tallied 1 ls) (sym e) ∙ so.sames);
-    differents = rw b (sym (tally_more 2 d line (lines_of after)) ∙ ap (λ ls. d + tallied 2 ls) (sym e) ∙ so.differents);
-    others = rw c (sym (tally_more 0 u line (lines_of after)) ∙ ap (λ ls. u + tallied 0 ls) (sym e) ∙ so.others);
-    few = omega (arith, so.few);
-    all = sum;
-  }
+tallied-le : (k : ℕ) (ls : List Bytes) → tallied k ls ≤ length ls
+tallied-le k ls = rw (tallied-count_by k ls) (count_by-le-length _ ls)
 
-  module _ (line after more : Bytes) (e : lines_of rest ≡ line ∷ lines_of after) (lt : length after < length rest) (f : more ≡ text ++ line_text (n + 1) line) where
-    pub step_same : 1 ≡ outcome_of line → Sofar file before after more (n + 1) (s + 1) d u
-    step_same o = step line after more (s + 1) d u e lt f (rw (← o)) (rw (← o) (omega arith)) (rw (← o) (omega arith)) (omega (arith, so.all))
+pub HasRoom-from_Counts : (t : Tally) (ls : List Bytes) → Counts t ls → length ls + 1 < 2 ^ 64 → HasRoom t
+HasRoom-from_Counts t ls h few = grind (arith, tallied-le 1 ls, tallied-le 2 ls, tallied-le 0 ls)
 
-    pub step_different : 2 ≡ outcome_of line → Sofar file before after more (n + 1) s (d + 1) u
-    step_different o = step line after more s (d + 1) u e lt f (rw (← o) (omega arith)) (rw (← o)) (rw (← o) (omega arith)) (omega (arith, so.all))
+module _ (t : Tally) (ls : List Bytes) (l : Bytes) (h : Counts t ls) where
+  counts : (o : Option Comparison) → ((k : ℕ) → tallied k (ls ++ l ∷ []) ≡ tallied k ls + cond (eqb (answer o).number k) 1 0) → Counts (counted t o) (ls ++ l ∷ [])
+  counts None more = grind (arith, length-append {A = Bytes}, more 1, more 2, more 0)
+  counts (Some Same) more = grind (arith, length-append {A = Bytes}, more 1, more 2, more 0)
+  counts (Some (Different x y)) more = grind (arith, length-append {A = Bytes}, more 1, more 2, more 0)
 
-    pub step_other : 0 ≡ outcome_of line → Sofar file before after more (n + 1) s d (u + 1)
-    step_other o = step line after more s d (u + 1) e lt f (rw (← o) (omega arith)) (rw (← o) (omega arith)) (rw (← o)) (omega (arith, so.all))
+  pub Counts-counted : (o : Option Comparison) → (answer o).number ≡ outcome_of l → Counts (counted t o) (ls ++ l ∷ [])
+  Counts-counted o e = counts o (λ k. rw e (tallied-append k ls l))
 
-  pub end_text : rest ≡ [] → text ≡ before ++ lines_text 1 (lines_of file)
-  end_text none = sym (append-nil text) ∙ ap (λ ls. text ++ lines_text (n + 1) ls) (sym (ap lines_of none)) ∙ so.texts
+-- the start s of a line, and then what is found of it
+pub line_joined : (t s f line : Bytes) (n : ℕ) → s ≡ codes "line " ++ (decimal n ++ codes ": ") → f ≡ found (row_of (fields_of line)) → t ++ s ++ f ++ codes "\n" ≡ t ++ line_text n line
+line_joined t s f line n e g = rw (e, g) (simp append_assoc)
 
-  pub end_counts : rest ≡ [] → (n ≡ length (lines_of file)) × (s ≡ tallied 1 (lines_of file)) × (d ≡ tallied 2 (lines_of file)) × (u ≡ tallied 0 (lines_of file))
-  end_counts none =
-      let no_lines : lines_of rest ≡ [] = ap lines_of none in (
-        omega (arith, so.count, ap length no_lines),
-        omega (arith, so.sames, ap (tallied 1) no_lines),
-        omega (arith, so.differents, ap (tallied 2) no_lines),
-        omega (arith, so.others, ap (tallied 0) no_lines),
-      )
+pub summary-Counts : (t : Tally) (ls : List Bytes) → Counts t ls → tally_text t ++ codes "\n" ≡ summary ls
+summary-Counts t ls h = rw (h.lines, h.same, h.different, h.not_compared) (simp append_assoc)

@@ -1,6 +1,5 @@
 -- The lines of a file, and the fields of a line.
-use Rattle.std.specs.Prelude.{◌≡◌, ℕ, ◌<◌, cond, List, [], ◌∷◌, ◌++◌, length, Some, None, Option, ◌==◌, ◌≢◌, slice_index}
-use Rattle.std.specs.Borrow.{Bor}
+use Rattle.std.specs.Prelude.{ℕ, cond, List, [], ◌∷◌, ◌==◌}
 use Rattle.datatypes.specs.Meaning.{Bytes}
 
 -- One byte more at the front of the first part; where there is no part, it is one by itself.
@@ -21,16 +20,8 @@ lines_of file = cut_at 0x0A [] file
 abbrev pub fields_of : Bytes → List Bytes
 fields_of line = cut_at 0x09 ([] ∷ []) line
 
--- No byte of s is c.
-abbrev pub Lacks : ℕ → Bytes → Type 0
-Lacks c s = (k : ℕ) → k < length s → slice_index s k ≢ c
-
--- A string is cut at its first byte c, if it has one.
-abbrev pub CutOnce : ℕ → Bytes → Option (Bor Bytes × Bor Bytes) → Type 0
-CutOnce c s None = Lacks c s
-CutOnce c s (Some p) = (s ≡ p.0.now ++ c ∷ p.1.now) × Lacks c p.0.now
-
--- The first line is taken off a file that has one.
-abbrev pub FirstLine : Bytes → Option (Bor Bytes × Bor Bytes) → Type 0
-FirstLine file None = file ≡ []
-FirstLine file (Some p) = (lines_of file ≡ p.0.now ∷ lines_of p.1.now) × (length p.1.now < length file)
+-- A line without the newline at its end, if there is one.
+abbrev pub without_newline : Bytes → Bytes
+without_newline [] = []
+without_newline (b ∷ []) = cond (b == 0x0A) [] (b ∷ [])
+without_newline (b ∷ c ∷ s) = b ∷ without_newline (c ∷ s)

@@ -1,75 +1,84 @@
-ghost use Rattle.std.specs.Prelude.{◌≡◌};
-ghost use Rattle.parameters.specs.Held.{outcome_number, finding_text};
+ghost use Rattle.std.specs.Prelude.{◌≡◌, ◌++◌, OnOk};
+ghost use Rattle.datatypes.specs.Comparison.{answer};
+ghost use Rattle.parameters.specs.Held.{comparison_of, comparison_text, finding_text};
 ghost use Rattle.parameters.specs.Lines.{fields_of};
-ghost use Rattle.parameters.specs.Report.{found, verdict};
+ghost use Rattle.parameters.specs.Report.{found};
 ghost use Rattle.parameters.specs.Rows.{row_of, outcome_of};
 
 use crate::rows::{judge, split_row};
 use datatypes::Comparison;
+use std::alloc::AllocError;
 
-// What came of a line.
+// What is found of a line.
 #[derive(Clone, Copy)]
-pub(crate) enum Outcome {
-    NotCompared,
-    Same,
-    Different,
+pub(crate) enum Finding<'a> {
+    NotThreeFields,
+    NoType {
+        name: &'a [u8],
+    },
+    Compared {
+        name: &'a [u8],
+        comparison: Comparison,
+    },
 }
 
-// What is found of a line: its outcome, and the text that says so, where the name of a type stands between two phrases.
-#[derive(Clone, Copy)]
-pub(crate) struct Finding<'a> {
-    pub before: &'a [u8],
-    pub name: &'a [u8],
-    pub after: &'a [u8],
-    pub outcome: Outcome,
-}
-
-pub(crate) fn examine(line: &[u8]) -> Finding<'_>
-    ensures text { finding_text result ≡ found (row_of (fields_of line.now)) }
-    ensures outcome { outcome_number result.outcome ≡ outcome_of line.now }
-{
-    let Some(row) = split_row(line) else {
-        return Finding {
-            before: b"not three fields",
-            name: b"",
-            after: b"",
-            outcome: Outcome::NotCompared,
+impl<'a> Finding<'a> {
+    pub(crate) fn of(line: &'a [u8]) -> Self
+        ensures text { finding_text result ≡ found (row_of (fields_of line.now)) }
+        ensures outcome { (answer (comparison_of result)).number ≡ outcome_of line.now }
+    {
+        let Some(row) = split_row(line) else {
+            return Finding::NotThreeFields;
         };
-    };
-    match judge(row) {
-        None => Finding {
-            before: b"no type ",
-            name: row.name,
-            after: b"",
-            outcome: Outcome::NotCompared,
-        },
-        Some(Comparison::Same) => Finding {
-            before: b"",
-            name: row.name,
-            after: b": left allowed, right allowed, same",
-            outcome: Outcome::Same,
-        },
-        Some(
-            Comparison::Different {
-                left_allowed,
-                right_allowed,
-            },
-        ) => Finding {
-            before: b"",
-            name: row.name,
-            after: difference(left_allowed, right_allowed),
-            outcome: Outcome::Different,
-        },
+        let name = row.name;
+        match judge(row) {
+            Some(comparison) => Finding::Compared { name, comparison },
+            None => Finding::NoType { name },
+        }
+    }
+
+    // The comparison, if there was one.
+    pub(crate) fn comparison(&self) -> Option<Comparison>
+        ensures { result ≡ comparison_of self.now }
+    {
+        match self {
+            Finding::Compared { comparison, .. } => Some(*comparison),
+            _ => None,
+        }
+    }
+
+    // Writes what is found behind a text.
+    pub(crate) fn write_to(&self, text: &mut Vec<u8>) -> Result<(), AllocError>
+        ensures { OnOk result (text.new.items ≡ text.old.items ++ finding_text self.now) }
+    {
+        match self {
+            Finding::NotThreeFields => text.extend_from_slice(b"not three fields"),
+            Finding::NoType { name } => {
+                text.extend_from_slice(b"no type ")?;
+                text.extend_from_slice(name)
+            }
+            Finding::Compared { name, comparison } => {
+                text.extend_from_slice(name)?;
+                text.extend_from_slice(describe(*comparison))
+            }
+        }
     }
 }
 
-fn difference(left_allowed: bool, right_allowed: bool) -> &'static [u8]
-    ensures { result.now ≡ verdict 2 (left_allowed, right_allowed) }
+// What is written of a comparison.
+fn describe(comparison: Comparison) -> &'static [u8]
+    ensures { result.now ≡ comparison_text comparison }
 {
-    match (left_allowed, right_allowed) {
-        (true, true) => b": left allowed, right allowed, different",
-        (true, false) => b": left allowed, right not allowed, different",
-        (false, true) => b": left not allowed, right allowed, different",
-        (false, false) => b": left not allowed, right not allowed, different",
+    match comparison {
+        Comparison::Same => b": left allowed, right allowed, same",
+        Comparison::Different {
+            left_allowed,
+            right_allowed,
+        } => match (left_allowed, right_allowed) {
+            (true, true) => b": left allowed, right allowed, different",
+            (true, false) => b": left allowed, right not allowed, different",
+            (false, true) => b": left not allowed, right allowed, different",
+            (false, false) => b": left not allowed, right not allowed, different",
+        },
     }
 }

@@ -4,6 +4,6 @@
 mod finding;
 mod reporting;
 mod rows;
-mod split;
+mod tally;
 
 pub use reporting::report;

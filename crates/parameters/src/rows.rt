@@ -5,7 +5,6 @@ ghost use Rattle.parameters.specs.Lines.{fields_of};
 ghost use Rattle.parameters.specs.Rows.{row_of, judged};
 ghost use Rattle.datatypes.specs.Comparison.{answer};
 
-use crate::split::split_once;
 use builtin::BuiltIn;
 use datatypes::{Comparison, TypeName, XML_SCHEMA_DATATYPES, compare};
 use decimals::Decimals;
@@ -22,14 +21,14 @@ pub(crate) struct ParameterRow<'a> {
 pub(crate) fn split_row(line: &[u8]) -> Option<ParameterRow<'_>>
     ensures { option_map named result ≡ row_of (fields_of line.now) }
 {
-    let (name, rest) = split_once(line, b'\t')?;
-    let (left, right) = split_once(rest, b'\t')?;
-    if split_once(right, b'\t').is_some() {
-        return None;
+    let mut fields = line.split(|b| *b == b'\t');
+    match (fields.next(), fields.next(), fields.next(), fields.next()) {
+        (Some(name), Some(left), Some(right), None) => Some(ParameterRow { name, left, right }),
+        _ => None,
     }
-    Some(ParameterRow { name, left, right })
 }
 
+// What the built-in library says of a row, or else the library of decimals; none where neither has the type.
 pub(crate) fn judge(row: ParameterRow<'_>) -> Option<Comparison>
     ensures { answer result ≡ judged (named row.entry) }
 {

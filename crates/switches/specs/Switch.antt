@@ -1,8 +1,8 @@
 -- The library of this example: the type `switch` of the URI `urn:example:switches`.
 use Rattle.std.specs.Prelude.{ℕ, Bool, true, false, cond, ◌||◌, [], ◌∷◌, Some, None, codes, Option, ◌==◌}
 use Rattle.datatypes.specs.Blanks.{trim}
-use Rattle.datatypes.specs.Meaning.{Bytes}
-use Rattle.datatypes.specs.Values.{ValueType}
+use Rattle.datatypes.specs.Meaning.{Bytes, Meaning}
+use Rattle.datatypes.specs.Values.{ValueType, library_of}
 
 -- The letter Y and the digit 1 stand for on, N and 0 for off.
 abbrev pub letter_value : ℕ → Option Bool
@@ -31,3 +31,7 @@ switch = record {
   equal = equal_switches;
   example = codes "0";
 }
+
+-- Type 1 is `switch`.
+abbrev pub switches : Meaning
+switches = library_of switch

@@ -1,9 +1,7 @@
-use Rattle.std.proofs.Common.{length, vec_items}
-use Rattle.parameters.proofs.Reports.{Sofar}
+use Rattle.std.proofs.Common.{map}
+use Rattle.parameters.specs.Held.{IsReportOn}
+use Rattle.parameters.specs.Lines.{without_newline}
 use Rattle.parameters.proofs.reporting.write_lines.Given as goal
 
 abbrev pub invariant-loop-line : goal.invariant-loop-line
-invariant-loop-line l = Sofar l.file (vec_items l.initial.text) l.rest (vec_items l.text) l.tally.lines l.tally.same l.tally.different l.tally.not_compared
-
-abbrev pub decreases-loop-line : goal.decreases-loop-line
-decreases-loop-line l = length l.rest
+invariant-loop-line l = IsReportOn (map (λ x. without_newline x.now) l.yielded) l.writer

@@ -1,25 +1,26 @@
-use Rattle.std.proofs.Common.{sym, ap, ◌∙◌}
-use Rattle.std.specs.Option.{option_map}
-use Rattle.parameters.specs.Held.{named}
-use Rattle.parameters.proofs.Cuts.{row_no_tab, row_one_tab, row_just_two, row_more_tabs}
+use Rattle.std.proofs.Common.{◌≡◌, Some, None, sym, rules, tests}
+use Rattle.parameters.proofs.Fields.{row_of-split}
+use Rattle.parameters.proofs.rows.split_row.Goals.{in_default-via-in-Some+in-Some+in-Some+in_default, in_default-via-in-Some+in-Some+in_default, in_default-via-in-Some+in_default, in_default-via-in_default}
 use Rattle.parameters.proofs.rows.split_row.Goals as goal
 
-pub returns-in_err-name : goal.returns-in_err-name
-returns-in_err-name c = ap (option_map named) c.from_residual.ensures ∙ sym (row_no_tab c.args.line.now c.in_err-name.ensures)
+pub returns-in-Some-Some-Some-None : goal.returns-in-Some-Some-Some-None
+returns-in-Some-Some-Some-None c =
+    let split = c.split-fields.ensures in
+    let row = row_of-split _ _ _ _ _ _ _ _ _ c.args.line.now split.rest split.done split.closure c.next.ensures.steps c.next-2.ensures.steps c.next-3.ensures.steps c.next-4.ensures.steps (λ x b q k. search (rules, tests)) in
+    let h = c.in-Some-Some-Some-None in
+    let none : c.next-4.result ≡ None = h.is-3 in
+    sym (rw (h.is-0, h.is-1, h.is-2, none) at row)
 
-pub returns-in_err-left : goal.returns-in_err-left
-returns-in_err-left c =
-    let first = c.in_ok-name.ensures in
-    ap (option_map named) c.from_residual-in_err-left.ensures ∙ sym (row_one_tab c.args.line.now c.in_ok-name.name.now c.in_ok-name.rest.now first.0 first.1 c.in_err-left.ensures)
-
-pub returns-then-is_some : goal.returns-then-is_some
-returns-then-is_some c =
-    let first = c.in_ok-name.ensures in
-    let second = c.in_ok-left.ensures in
-    sym (row_more_tabs c.args.line.now c.in_ok-name.name.now c.in_ok-name.rest.now first.0 first.1 c.in_ok-left.left.now c.in_ok-left.right.now second.0 second.1 c.split_once-3.result c.split_once-3.ensures (sym c.if-is_some.ensures))
-
-pub returns : goal.returns
-returns c =
-    let first = c.in_ok-name.ensures in
-    let second = c.in_ok-left.ensures in
-    sym (row_just_two c.args.line.now c.in_ok-name.name.now c.in_ok-name.rest.now first.0 first.1 c.in_ok-left.left.now c.in_ok-left.right.now second.0 second.1 c.split_once-3.result c.split_once-3.ensures (sym c.if-is_some.ensures))
+pub returns-in_default : goal.returns-in_default
+returns-in_default c =
+    let split = c.split-fields.ensures in
+    let row = row_of-split _ _ _ _ _ _ _ _ _ c.args.line.now split.rest split.done split.closure c.next.ensures.steps c.next-2.ensures.steps c.next-3.ensures.steps c.next-4.ensures.steps (λ x b q k. search (rules, tests)) in
+    elim c.in_default.branch [
+      | in_default-via-in-Some+in-Some+in-Some+in_default w ↦
+          let h = w.in_default in
+          let some : c.next-4.result ≡ Some h.field-0-3 = h.is-3 in
+          sym (rw (h.is-0, h.is-1, h.is-2, some) at row)
+      | in_default-via-in-Some+in-Some+in_default w ↦ let h = w.in_default in sym (rw (h.is-0, h.is-1, h.is-2) at row)
+      | in_default-via-in-Some+in_default w ↦ let h = w.in_default in sym (rw (h.is-0, h.is-1) at row)
+      | in_default-via-in_default w ↦ let h = w.in_default in sym (rw h.is-0 at row)
+    ]

@@ -1,21 +1,16 @@
 -- Two iterators whose states show the lists that they still give, compared by `eq`.
-use Rattle.std.proofs.Common.{◌≡◌, ℕ, Bool, true, false, [], ◌∷◌, ◌++◌, IfSome, Some, None, Decides, Option, eqb, eqb-true, sym, refl, ap, ◌∙◌, MatchOption}
+use Rattle.std.proofs.Common.{◌≡◌, ℕ, Bool, true, false, [], ◌∷◌, ◌++◌, IfSome, Some, None, Decides, Option, eqb, eqb-true, sym, ap, ◌∙◌, MatchOption}
 use mathlib.Core.List.{append_cancel_left}
 use Rattle.std.specs.Iterator.{Yields, YieldsFirst, YieldsThen}
 use Rattle.std.proofs.lemmas.Bool.{eqb-false}
 use Rattle.std.specs.List.{AllZip}
+use Rattle.std.proofs.lemmas.List.Elements.{same_from_all_zip}
 use Rattle.datatypes.specs.Meaning.{Bytes}
 
 module _ {S : Type 0} (shown : S → Bytes) where
   given : (s t : S) (xs : Bytes) → Yields (YieldsFirst shown) s xs t → shown s ≡ xs ++ shown t
   given s t [] h = ap shown h
   given s t (x ∷ xs) h = h.1 ∙ ap (λ l. x ∷ l) (given h.0 t xs h.2)
-
-same_items : (xs ys : Bytes) → AllZip (λ x y. eqb x y ≡ true) xs ys → xs ≡ ys
-same_items [] [] h = refl
-same_items [] (y ∷ ys) h = absurd h
-same_items (x ∷ xs) [] h = absurd h
-same_items (x ∷ xs) (y ∷ ys) h = let e = eqb-true x y h.0 in let f = same_items xs ys h.1 in cc
 
 -- what is left after the bytes that two lists have in common tells whether they are equal
 tells : (s t u v : Bytes) (o p : Option ℕ) (r : Bool) → YieldsFirst (λ s. s) s o u → YieldsFirst (λ s. s) t p v → MatchOption o (MatchOption p (r ≡ true) (λ _. r ≡ false)) (λ x. (r ≡ false) × IfSome p (λ y. eqb x y ≡ false)) → Decides r (s ≡ t)
@@ -32,5 +27,5 @@ module _ {S T : Type 0} (here : S → Bytes) (there : T → Bytes) (s : S) (t : 
   eq-Decides xs ys o p u v r a b h k =
       let both = after xs (here a.0) (there b.0) r (tells _ _ _ _ o p r a.2 b.2 k) in
       let e = given here s a.0 xs a.1 in
-      let f = given there t b.0 ys b.1 ∙ ap (λ l. l ++ there b.0) (sym (same_items xs ys h)) in
+      let f = given there t b.0 ys b.1 ∙ ap (λ l. l ++ there b.0) (same_from_all_zip _ xs ys h (λ x y k. sym (eqb-true x y k))) in
       (λ g. e ∙ both.0 g ∙ sym f, λ g. both.1 (sym e ∙ g ∙ f))

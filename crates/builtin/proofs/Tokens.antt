@@ -28,9 +28,6 @@ drop_blanks-reverse (b ∷ s) e = ap drop_blanks (reverse-cons b s) ∙ go (is_b
 pub coming_none : (s : Bytes) → drop_blanks s ≡ [] → coming s ≡ []
 coming_none s none = ap (λ t. squeeze (reverse t)) (drop_blanks-reverse s none)
 
-pub collapse_none : (s : Bytes) → drop_blanks s ≡ [] → collapse s ≡ []
-collapse_none s none = ap coming none
-
 -- ---- blanks, then a byte that is none, then anything
 
 record Split (s : Bytes) (b : ℕ) (r : Bytes) : Type 0 where

@@ -9,6 +9,6 @@ abbrev pub number_of : BuiltInType → ℕ
 number_of String = 1
 number_of Token = 2
 
--- The type that has a number, or the number back where it is no type's.
+-- The type that has a number, or an error where the number is no type's.
 abbrev pub Decodes : ℕ → Result BuiltInType NoType → Type 0
-Decodes n r = MatchResult r (λ t. number_of t ≡ n) (λ e. (e.0 ≡ n) × (n ≢ 1) × (n ≢ 2))
+Decodes n r = MatchResult r (λ t. number_of t ≡ n) (λ _. (n ≢ 1) × (n ≢ 2))

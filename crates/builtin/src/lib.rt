@@ -22,7 +22,7 @@ impl DatatypeLibrary for BuiltIn {
     ghost lawful = { λ _. built_in-Lawful };
 
     fn find(&self, type_name: TypeName<'_>) -> Option<u32> {
-        BuiltInType::named(type_name).map(u32::from)
+        BuiltInType::named(type_name).map(|datatype| datatype as u32)
     }
 
     fn allows(&self, datatype: u32, _s: &[u8]) -> bool {

@@ -5,16 +5,16 @@ ghost use Rattle.builtin.specs.Types.{number_of, Decodes};
 
 use datatypes::TypeName;
 
-/// The types of the library. Their numbers are those of its meaning.
+/// The types of the library, with their numbers.
 #[derive(Clone, Copy, PartialEq, Eq, Debug)]
 pub(crate) enum BuiltInType {
-    String,
-    Token,
+    String = 1,
+    Token = 2,
 }
 
-/// A number by which the library has no type.
+/// By that number the library has no type.
 #[derive(Clone, Copy, PartialEq, Eq, Debug)]
-pub(crate) struct NoType(pub u32);
+pub(crate) struct NoType;
 
 impl TryFrom<u32> for BuiltInType {
     type Error = NoType;
@@ -25,18 +25,7 @@ impl TryFrom<u32> for BuiltInType {
         match number {
             1 => Ok(BuiltInType::String),
             2 => Ok(BuiltInType::Token),
-            _ => Err(NoType(number)),
-        }
-    }
-}
-
-impl From<BuiltInType> for u32 {
-    ghost from_gives = { λ datatype number. number ≡ number_of datatype };
-
-    fn from(datatype: BuiltInType) -> u32 {
-        match datatype {
-            BuiltInType::String => 1,
-            BuiltInType::Token => 2,
+            _ => Err(NoType),
         }
     }
 }

@@ -23,7 +23,8 @@ fn skip_blanks(s: &[u8]) -> &[u8]
     &s[blanks..]
 }
 
-// A string without the blanks at its end.
+// A string without the blanks at its end. One function over either direction would be a generic one with four clauses on its
+// iterator, for the one line that the two share.
 fn skip_end_blanks(s: &[u8]) -> &[u8]
     ensures { result.now ≡ drop_end_blanks s.now }
 {

@@ -32,6 +32,7 @@ pub trait OneType {
         ensures { Reads definition.equal meant (definition.read s.now) result };
 
     /// Are two values equal?
+    // No `PartialEq` of `Value` with a law, since a law's proof can cite only `specs/`, and lemmas would have to move there.
     fn same_value(x: &Self::Value, y: &Self::Value) -> bool
         ensures { result ≡ definition.equal (meant x.now) (meant y.now) };
 

@@ -31,7 +31,7 @@ mod tests {
         name: b"switch",
     };
 
-    // The numbers of the types in their libraries.
+    // The numbers of the types in their libraries, which the questions take.
     const STRING_NUMBER: u32 = 1;
 
     const TOKEN_NUMBER: u32 = 2;

@@ -1,21 +1,11 @@
 -- Numbers that are equal in value, and that a number has one normal form.
-use Rattle.std.proofs.Common.{◌≡◌, ℕ, suc, ◌+◌, ◌-◌, ◌*◌, ◌/◌, ◌%◌, ◌^◌, ◌<◌, Bool, true, sym, ap, ◌∙◌, ⊎_elim, mul_comm, mul_assoc, pow-suc, arith, pow-add}
+use Rattle.std.proofs.Common.{◌≡◌, ℕ, suc, ◌+◌, ◌-◌, ◌*◌, ◌/◌, ◌%◌, ◌^◌, ◌<◌, Bool, sym, ap, ◌∙◌, ⊎_elim, mul_comm, mul_assoc, pow-suc, arith, pow-add}
 use Rattle.std.proofs.Math.Nat.{mul-mod_left, eq_of_mul-eq-mul_left, eq_of_mul-eq-mul_right}
 use Rattle.std.proofs.lemmas.Bool.{cases_order}
-use Rattle.std.proofs.lemmas.Bool.Decides.{nat_tests, same_from_decides}
-use Rattle.datatypes.specs.Numeral.{Number, equal_value}
-use Rattle.decimals.specs.Laws.{ten_pos, Level, equal_value-Decides, equal_value_symmetric, equal_value_transitive}
+use Rattle.std.proofs.lemmas.Bool.Decides.{nat_tests}
+use Rattle.datatypes.specs.Numeral.{Number}
+use Rattle.decimals.specs.Laws.{ten_pos, Level}
 use Rattle.decimals.specs.NormalForm.{NoLastZero, PositiveZero}
-
-pub equal_by_parts : (s t : Bool) (m n f g h : ℕ) → m * 10 ^ h ≡ n * 10 ^ f → h ≡ g → (0 < m → s ≡ t) → equal_value (record { negative = s; digits = m; scale = f }) (record { negative = t; digits = n; scale = g }) ≡ true
-equal_by_parts s t m n f g h e k signs = (equal_value-Decides _ _).1 (ap (λ i. m * 10 ^ i) (sym k) ∙ e, signs)
-
--- numbers may be replaced by such as are equal to them
-pub equal_value_same : (x y v w : Number) → equal_value x v ≡ true → equal_value y w ≡ true → equal_value x y ≡ equal_value v w
-equal_value_same x y v w h k =
-    same_from_decides (equal_value x y) (equal_value v w)
-    (λ e. equal_value_transitive v x w (equal_value_symmetric x v h) (equal_value_transitive x y w e k), λ e. equal_value_transitive x v y h (equal_value_transitive v w y e (equal_value_symmetric y w k)))
-    (λ e. e, λ e. e)
 
 -- ---- one normal form
 

@@ -13,6 +13,7 @@ const MOST_DIGITS: u8 = 18;
 impl Decimal {
     /// Reads a decimal: blanks at both ends are passed over; a sign may stand first; then come digits, at least one and at
     /// most 18, leading and last zeros among them, and a point may stand before, between or after them.
+    // An `Option` and no `TryFrom`, since an error would have nothing to say.
     pub fn parse(s: &[u8]) -> Option<Decimal>
         ensures { Reads equal_value held (decimal_of s.now) result }
     {
@@ -21,7 +22,8 @@ impl Decimal {
         Some(Decimal::normal(negative, digits))
     }
 
-    /// Are the two equal in value? In the normal form that says whether their fields are equal.
+    /// Are the two equal in value?
+    // The derived equality of the fields, which decides it in the normal form: kept beside `==` for the contract.
     #[tactic(auto, using(crate::proofs::DecimalType::same_fields))]
     pub fn same_value(&self, other: &Decimal) -> bool
         ensures { result ≡ equal_value (held self.now) (held other.now) }
@@ -35,6 +37,7 @@ impl Decimal {
     {
         let mut magnitude = digits.magnitude;
         let mut fraction = digits.fraction.unwrap_or(0);
+        // This divides a number and goes over no sequence, so that there is nothing to iterate over.
         while fraction > 0 && magnitude % 10 == 0 {
             magnitude /= 10;
             fraction -= 1;
@@ -47,7 +50,8 @@ impl Decimal {
     }
 }
 
-// Is there a minus at the front, and what stands after the sign, if there is one?
+// Is there a minus at the front, and what stands after the sign, if there is one? The flag is the sign, and a string is there for
+// either: that is the shape of no `Option` or `Result`.
 fn split_sign(s: &[u8]) -> (bool, &[u8])
     ensures sign { result.0 ≡ starts_minus s.now }
     ensures rest { result.1.now ≡ unsigned s.now }
@@ -64,6 +68,7 @@ impl Digits {
     fn read(numeral: &[u8]) -> Option<Digits>
         ensures { ReadsDigits numeral.now result }
     {
+        // No `Default`: none is derived beside ghost fields, and one by hand would want a contract that says what this says.
         let mut digits = Digits {
             magnitude: 0,
             count: 0,

@@ -32,7 +32,7 @@ finding_text NotThreeFields = codes "not three fields"
 finding_text (NoType name) = codes "no type " ++ name.now
 finding_text (Compared name c) = name.now ++ comparison_text c
 
--- A `ReportWriter` has the text on a list of lines, and their tally.
+-- A `ReportWriter` has the text on a list of lines, and their tally. The list is no field of it, so that no invariant of the type can say this.
 pub record IsReportOn (ls : List Bytes) (r : ReportWriter) : Type 0 where
   pub text : r.text.items ≡ lines_text 1 ls
   pub tally : Counts r.tally ls

@@ -47,7 +47,7 @@ impl<'a> Finding<'a> {
         }
     }
 
-    // Writes what is found behind a text.
+    // Writes what is found behind a text. It is no `Display`, since the name of a type is bytes that need not be text.
     pub(crate) fn write_to(&self, text: &mut Vec<u8>) -> Result<(), AllocError>
         ensures { OnOk result (text.new.items ≡ text.old.items ++ finding_text self.now) }
     {
@@ -65,7 +65,7 @@ impl<'a> Finding<'a> {
     }
 }
 
-// What is written of a comparison.
+// What is written of a comparison: one of five constants, which a `Display` would first write into a text of its own.
 fn describe(comparison: Comparison) -> &'static [u8]
     ensures { result.now ≡ comparison_text comparison }
 {

@@ -1,5 +1,8 @@
-ghost use Rattle.std.specs.Prelude.{◌≡◌, Some};
-ghost use Rattle.parameters.specs.Tally.{HasRoom, counted, tally_text};
+ghost use Rattle.std.specs.Prelude.{◌≡◌, List, [], ◌∷◌, ◌++◌, Some};
+ghost use Rattle.datatypes.specs.Comparison.{answer};
+ghost use Rattle.datatypes.specs.Meaning.{Bytes};
+ghost use Rattle.parameters.specs.Rows.{outcome_of};
+ghost use Rattle.parameters.specs.Tally.{Counts, HasRoom, tally_text};
 
 use datatypes::Comparison;
 use std::fmt;
@@ -14,10 +17,10 @@ pub(crate) struct Tally {
 }
 
 impl Tally {
-    // Counts a line, by the comparison that was made of it.
+    // Counts a line more, by the comparison that was made of it.
     pub(crate) fn count(&mut self, comparison: Option<Comparison>)
         requires { HasRoom self.old }
-        ensures { self.new ≡ counted self.old comparison }
+        ensures { (ls : List Bytes) (line : Bytes) → Counts self.old ls → (answer comparison).number ≡ outcome_of line → Counts self.new (ls ++ line ∷ []) }
     {
         self.lines += 1;
         match comparison {

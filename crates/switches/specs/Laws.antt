@@ -6,7 +6,7 @@ use Rattle.datatypes.specs.Meaning.{Lawful}
 use Rattle.datatypes.specs.Values.{Equivalence, LawfulValueType}
 use Rattle.switches.specs.Switch.{equal_switches, switch, switches}
 
-equal_switches-Decides : (x y : Bool) → Decides (equal_switches x y) (x ≡ y)
+pub equal_switches-Decides : (x y : Bool) → Decides (equal_switches x y) (x ≡ y)
 equal_switches-Decides true true = (λ e. refl, λ e. refl)
 equal_switches-Decides true false = (λ e. cc, λ e. cc)
 equal_switches-Decides false true = (λ e. cc, λ e. cc)

@@ -1,3 +1,3 @@
-pub mod DecimalType
+pub mod NormalForm
 pub mod Numbers
 pub mod Numerals

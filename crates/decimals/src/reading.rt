@@ -24,7 +24,7 @@ impl Decimal {
 
     /// Are the two equal in value?
     // The derived equality of the fields, which decides it in the normal form: kept beside `==` for the contract.
-    #[tactic(auto, using(crate::proofs::DecimalType::same_fields))]
+    #[tactic(auto, using(crate::proofs::NormalForm::same_fields))]
     pub fn same_value(&self, other: &Decimal) -> bool
         ensures { result ≡ equal_value (held self.now) (held other.now) }
     {

@@ -13,4 +13,4 @@ pub use bytes::{is_blank, trim_blanks};
 pub use comparison::{Comparison, compare};
 pub use library::{DatatypeLibrary, XML_SCHEMA_DATATYPES};
 pub use one_type::OneType;
-pub use type_name::TypeName;
+pub use type_name::{TypeName, find_only_type, same_name};

@@ -3,10 +3,7 @@ ghost use Rattle.datatypes.specs.Laws.{library_of-Lawful};
 ghost use Rattle.datatypes.specs.Values.{ValueType, LawfulValueType, Reads, library_of};
 
 use crate::library::DatatypeLibrary;
-use crate::type_name::TypeName;
-
-// The number of the only type: the types of a library are numbered from 1.
-const ONLY: u32 = 1;
+use crate::type_name::{ONLY, TypeName, find_only_type};
 
 /// A library of one type, whose strings stand for values. An implementation defines the type, reads its strings and compares
 /// their values, and is a `DatatypeLibrary` by that: a string is allowed if it stands for a value, and two are same if their
@@ -49,7 +46,8 @@ impl<T: OneType> DatatypeLibrary for T {
     ghost lawful = { λ _. library_of-Lawful T.definition T.lawful };
 
     fn find(&self, type_name: TypeName<'_>) -> Option<u32> {
-        (type_name == T::type_name()).then_some(ONLY)
+        let own = T::type_name();
+        find_only_type(own.uri, own.name, type_name.uri, type_name.name)
     }
 
     fn allows(&self, datatype: u32, s: &[u8]) -> bool {
@@ -60,10 +58,14 @@ impl<T: OneType> DatatypeLibrary for T {
         if datatype != ONLY {
             return false;
         }
-        match (T::parse(a), T::parse(b)) {
-            (Some(x), Some(y)) => T::same_value(&x, &y),
-            _ => false,
-        }
+        // The second string is read only where the first stands for a value, since it may be long.
+        let Some(x) = T::parse(a) else {
+            return false;
+        };
+        let Some(y) = T::parse(b) else {
+            return false;
+        };
+        T::same_value(&x, &y)
     }
 
     fn allows_any(&self, datatype: u32) -> bool {

@@ -1,7 +1,9 @@
 //! The datatype library of decimals.
 #![tactic(auto)]
 
-ghost use Rattle.datatypes.specs.Decimals.{decimal};
+ghost use Rattle.std.specs.Prelude.{◌≡◌};
+ghost use Rattle.datatypes.specs.Decimals.{decimal, decimals};
+ghost use Rattle.datatypes.specs.Meaning.{Lawful};
 ghost use Rattle.datatypes.specs.Numeral.{Number};
 ghost use Rattle.decimals.specs.Held.{held};
 ghost use Rattle.decimals.specs.Laws.{decimal-Lawful};
@@ -10,7 +12,7 @@ mod decimal;
 mod digits;
 mod reading;
 
-use datatypes::{OneType, TypeName, XML_SCHEMA_DATATYPES};
+use datatypes::{DatatypeLibrary, OneType, TypeName, XML_SCHEMA_DATATYPES};
 pub use decimal::Decimal;
 
 /// The library of decimals: its type `decimal` allows what `Decimal::parse` reads, and compares by value.
@@ -46,4 +48,13 @@ impl OneType for Decimals {
     }
 
     ghost lawful = { decimal-Lawful };
+}
+
+impl Decimals {
+    /// The library means `decimals`, which keeps the laws. This does nothing: its contract ties that definition and its proof, which
+    /// the `impl` for all `OneType` does not name, to the code.
+    pub fn means_decimals(&self)
+        ensures meaning { ⟦<Decimals as DatatypeLibrary>⟧.meaning self.now ≡ decimals }
+        ensures lawful { Lawful decimals }
+    {}
 }

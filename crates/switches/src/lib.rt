@@ -2,11 +2,12 @@
 //! and `N` and `0` for off.
 #![tactic(auto)]
 
-ghost use Rattle.std.specs.Prelude.{Bool};
+ghost use Rattle.std.specs.Prelude.{◌≡◌, Bool};
+ghost use Rattle.datatypes.specs.Meaning.{Lawful};
 ghost use Rattle.switches.specs.Laws.{switch-Lawful};
-ghost use Rattle.switches.specs.Switch.{switch};
+ghost use Rattle.switches.specs.Switch.{switch, switches};
 
-use datatypes::{OneType, TypeName, trim_blanks};
+use datatypes::{DatatypeLibrary, OneType, TypeName, trim_blanks};
 
 /// The library of switches.
 #[derive(Clone, Copy)]
@@ -46,4 +47,13 @@ impl OneType for Switches {
     }
 
     ghost lawful = { switch-Lawful };
+}
+
+impl Switches {
+    /// The library means `switches`, which keeps the laws. This does nothing: its contract ties that definition and its proof, which
+    /// the `impl` for all `OneType` does not name, to the code.
+    pub fn means_switches(&self)
+        ensures meaning { ⟦<Switches as DatatypeLibrary>⟧.meaning self.now ≡ switches }
+        ensures lawful { Lawful switches }
+    {}
 }

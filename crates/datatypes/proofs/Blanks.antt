@@ -1,17 +1,9 @@
 -- Blanks at the ends of a string, by how many they are.
-use Rattle.std.proofs.Common.{◌≡◌, ℕ, suc, ◌+◌, ◌-◌, true, false, cond, List, [], ◌∷◌, reverse, length, take, drop, Option, Bor, Bool, ◌++◌, sym, refl, ap, ◌∙◌, arith, length-drop}
+use Rattle.std.proofs.Common.{◌≡◌, ℕ, suc, ◌+◌, ◌-◌, ◌≤◌, true, false, cond, not, ltb, [], ◌∷◌, reverse, length, take, drop, Some, None, Option, Bool, ◌++◌, sym, refl, ap, ◌∙◌, arith, length-drop}
 use mathlib.Core.List.{reverse-append, reverse-reverse}
-use denote.Param.Members.{Mut}
-use Rattle.std.specs.declared.iter.TakeWhile.{TakeWhile}
-use Rattle.std.specs.Fn.{CalledAt}
-use Rattle.std.specs.Iterator.{Drains}
-use Rattle.std.specs.Iterator.Adapters.{take_while_source, take_while_done, take_while_callee, take_while_steps}
-use Rattle.std.specs.List.{prefix_len}
-use Rattle.std.proofs.lemmas.Iterator.{YieldsList}
-use Rattle.std.proofs.lemmas.Iterator.Consumers.{count_from_yields_List}
-use Rattle.std.proofs.lemmas.Iterator.Search.{YieldsList-from_take_while}
-use Rattle.std.proofs.lemmas.List.Folds.{length-prefix_len}
-use Rattle.std.proofs.lemmas.List.{length-reverse, take-append-drop, take_at, take_rest}
+use Rattle.std.specs.List.{prefix_len, position_or_len}
+use Rattle.std.proofs.lemmas.Bool.Decides.{nat_tests}
+use Rattle.std.proofs.lemmas.List.{length-reverse, take-append-drop, take_at, take_rest, nil_from_length}
 use Rattle.datatypes.specs.Blanks.{is_blank, drop_blanks, drop_end_blanks}
 use Rattle.datatypes.specs.Meaning.{Bytes}
 
@@ -37,7 +29,35 @@ take_from_reverse s n =
 pub back : (s : Bytes) (n : ℕ) → n ≡ prefix_len is_blank (reverse s) → take (length s - n) s ≡ drop_end_blanks s
 back s n e = take_from_reverse s n ∙ ap reverse (ap (λ k. drop k (reverse s)) e ∙ drop_blanks_is (reverse s))
 
--- how many blanks `take_while` gives before it ends, over an iterator of the bytes of s
-pub counted : {S F : Type 0} {steps : S → Option (Bor ℕ) → S → Type 0} (g : Mut F (Bor (Bor ℕ) × Unit {0}) Bool) {f : F} (s : Bytes) (t : TakeWhile S F) (n : ℕ) → (xs : List (Bor ℕ)) × Drains (take_while_steps steps g) t xs × (n ≡ length xs) → YieldsList steps (λ y. y.now) (take_while_source t) s → take_while_callee t ≡ f → take_while_done t ≡ false → ((x : Bor ℕ) (b : Bool) (q : F) → CalledAt g f x b q → (q ≡ f) × (b ≡ is_blank x.now)) → n ≡ prefix_len is_blank s
-counted g s t n ran road callee done test =
-    count_from_yields_List t n ran (YieldsList-from_take_while g is_blank road callee done test) ∙ length-prefix_len is_blank s
+-- ---- the blanks that stand before the first byte that is none, as `position` finds it
+
+abbrev pub is_solid : ℕ → Bool
+is_solid b = not (is_blank b)
+
+-- what `position` answers of a string's bytes
+abbrev pub FirstSolidAt : Bytes → Option ℕ → Type 0
+FirstSolidAt s r = r ≡ cond (ltb (position_or_len is_solid s) (length s)) (Some (position_or_len is_solid s)) None
+
+position_or_len-solid : (s : Bytes) → position_or_len is_solid s ≡ prefix_len is_blank s
+position_or_len-solid [] = refl
+position_or_len-solid (b ∷ s) =
+    elim (is_blank b) as (λ k. cond (not (not k)) (1 + position_or_len is_solid s) 0 ≡ cond k (1 + prefix_len is_blank s) 0) [
+      | true ↦ ap (λ n. 1 + n) (position_or_len-solid s)
+      | false ↦ refl
+    ]
+
+place : (t : Bool) (m n : ℕ) → Some n ≡ cond t (Some m) None → n ≡ m
+place true m n e = cc
+place false m n e = cc
+
+no_place : (m k : ℕ) → None ≡ cond (ltb m k) (Some m) None → k ≤ m
+no_place m k e = grind (arith, nat_tests)
+
+pub blanks_before : (s : Bytes) (n : ℕ) → FirstSolidAt s (Some n) → n ≡ prefix_len is_blank s
+blanks_before s n e = place _ _ n e ∙ position_or_len-solid s
+
+pub all_blank : (s : Bytes) → FirstSolidAt s None → [] ≡ drop_blanks s
+all_blank s e =
+    let m = position_or_len is_solid s in
+    let past : length s ≤ m = no_place m (length s) e in
+    sym (nil_from_length (drop m s) (omega (arith, length-drop m s))) ∙ ap (λ n. drop n s) (position_or_len-solid s) ∙ drop_blanks_is s

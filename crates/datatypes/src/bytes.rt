@@ -19,15 +19,19 @@ pub fn trim_blanks(s: &[u8]) -> &[u8]
 fn skip_blanks(s: &[u8]) -> &[u8]
     ensures { result.now ≡ drop_blanks s.now }
 {
-    let blanks = s.iter().take_while(|b| is_blank(**b)).count();
-    &s[blanks..]
+    match s.iter().position(|b| !is_blank(*b)) {
+        Some(blanks) => &s[blanks..],
+        None => &[],
+    }
 }
 
 // A string without the blanks at its end. One function over either direction would be a generic one with four clauses on its
-// iterator, for the one line that the two share.
+// iterator, for the one call that the two share.
 fn skip_end_blanks(s: &[u8]) -> &[u8]
     ensures { result.now ≡ drop_end_blanks s.now }
 {
-    let blanks = s.iter().rev().take_while(|b| is_blank(**b)).count();
-    &s[..s.len() - blanks]
+    match s.iter().rev().position(|b| !is_blank(*b)) {
+        Some(blanks) => &s[..s.len() - blanks],
+        None => &[],
+    }
 }

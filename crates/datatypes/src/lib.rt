@@ -12,5 +12,5 @@ mod type_name;
 pub use bytes::{is_blank, trim_blanks};
 pub use comparison::{Comparison, compare};
 pub use library::{DatatypeLibrary, XML_SCHEMA_DATATYPES};
-pub use one_type::OneType;
-pub use type_name::{TypeName, find_only_type, same_name};
+pub use one_type::{OneType, find_only_type};
+pub use type_name::{TypeName, same_name};

@@ -1,9 +1,13 @@
 ghost use Rattle.std.specs.Prelude.{◌≡◌};
 ghost use Rattle.datatypes.specs.Laws.{library_of-Lawful};
+ghost use Rattle.datatypes.specs.Names.{only_type};
 ghost use Rattle.datatypes.specs.Values.{ValueType, LawfulValueType, Reads, library_of};
 
 use crate::library::DatatypeLibrary;
-use crate::type_name::{ONLY, TypeName, find_only_type};
+use crate::type_name::{TypeName, same_name};
+
+// The number of the only type: the types of a library are numbered from 1.
+const ONLY: u32 = 1;
 
 /// A library of one type, whose strings stand for values. An implementation defines the type, reads its strings and compares
 /// their values, and is a `DatatypeLibrary` by that: a string is allowed if it stands for a value, and two are same if their
@@ -71,4 +75,11 @@ impl<T: OneType> DatatypeLibrary for T {
     fn allows_any(&self, datatype: u32) -> bool {
         self.allows(datatype, T::example())
     }
+}
+
+/// What a library of one type answers to `find`.
+pub fn find_only_type(own_uri: &[u8], own_name: &[u8], uri: &[u8], name: &[u8]) -> Option<u32>
+    ensures { result ≡ only_type own_uri.now own_name.now uri.now name.now }
+{
+    same_name(own_uri, own_name, uri, name).then_some(ONLY)
 }

@@ -5,7 +5,9 @@ ghost use Rattle.datatypes.specs.Blanks.{is_blank, drop_blanks, drop_end_blanks,
 pub fn is_blank(b: u8) -> bool
     ensures { result ≡ is_blank b }
 {
-    matches!(b, b' ' | b'\t' | b'\n' | b'\r')
+    // All four are compared, without a jump in between: with a jump for each, a string of alternating blanks takes up to three times
+    // as long.
+    (b == b' ') | (b == b'\t') | (b == b'\n') | (b == b'\r')
 }
 
 /// A string without the blanks at both ends.

@@ -29,7 +29,7 @@ take_from_reverse s n =
 pub back : (s : Bytes) (n : ℕ) → n ≡ prefix_len is_blank (reverse s) → take (length s - n) s ≡ drop_end_blanks s
 back s n e = take_from_reverse s n ∙ ap reverse (ap (λ k. drop k (reverse s)) e ∙ drop_blanks_is (reverse s))
 
--- ---- the blanks that stand before the first byte that is none, as `position` finds it
+-- ---- the blanks that stand before the first byte that is no blank, as `position` finds it
 
 abbrev pub is_solid : ℕ → Bool
 is_solid b = not (is_blank b)
@@ -46,18 +46,19 @@ position_or_len-solid (b ∷ s) =
       | false ↦ refl
     ]
 
-place : (t : Bool) (m n : ℕ) → Some n ≡ cond t (Some m) None → n ≡ m
-place true m n e = cc
-place false m n e = cc
+-- where `position` answers a number, it is the place m that it looks for; where it answers none, the place is past the k bytes
+position-found : (t : Bool) (m n : ℕ) → Some n ≡ cond t (Some m) None → n ≡ m
+position-found true m n e = cc
+position-found false m n e = cc
 
-no_place : (m k : ℕ) → None ≡ cond (ltb m k) (Some m) None → k ≤ m
-no_place m k e = grind (arith, nat_tests)
+position-missed : (m k : ℕ) → None ≡ cond (ltb m k) (Some m) None → k ≤ m
+position-missed m k e = grind (arith, nat_tests)
 
 pub blanks_before : (s : Bytes) (n : ℕ) → FirstSolidAt s (Some n) → n ≡ prefix_len is_blank s
-blanks_before s n e = place _ _ n e ∙ position_or_len-solid s
+blanks_before s n e = position-found _ _ n e ∙ position_or_len-solid s
 
 pub all_blank : (s : Bytes) → FirstSolidAt s None → [] ≡ drop_blanks s
 all_blank s e =
     let m = position_or_len is_solid s in
-    let past : length s ≤ m = no_place m (length s) e in
+    let past : length s ≤ m = position-missed m (length s) e in
     sym (nil_from_length (drop m s) (omega (arith, length-drop m s))) ∙ ap (λ n. drop n s) (position_or_len-solid s) ∙ drop_blanks_is s
